@@ -1,0 +1,4 @@
+pub mod Words
+pub mod Addresses
+pub mod Memory
+pub mod Modes
