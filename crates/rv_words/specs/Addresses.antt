@@ -1,6 +1,6 @@
 -- What stands at an address of a board with so many pages and harts: memory, a device word, or nothing. Memory
--- begins at 0x80000000, and a page has 4,096 bytes. The device words of timer and software interrupts lie as in
--- the layout known as CLINT; the console's are this board's own.
+-- begins at 0x80000000, and a page has 4,096 bytes. The layout is this board's own (docs/board.md); timer and
+-- software interrupts lie as in the layout known as CLINT.
 use Rattle.std.specs.Prelude.{ℕ, ◌+◌, ◌-◌, ◌*◌, ◌/◌, ◌%◌, ◌==◌, ◌<◌, ◌≤◌, nat_le, nat_lt, Bool, ◌&&◌, if◌then◌else◌, Option, Some, None, is_some}
 use Rattle.rv_words.specs.declared.shared.DeviceWord.{DeviceWord}
 use Rattle.rv_words.specs.declared.shared.DeviceWord.TheVariants.{Msip, CompareLow, CompareHigh, TimeLow, TimeHigh, Rx, Tx, Stop}
