@@ -1,0 +1,3 @@
+pub mod Headers
+pub mod Kept
+pub mod Putting

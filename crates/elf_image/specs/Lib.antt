@@ -1,0 +1,4 @@
+pub mod Image
+pub mod Elf
+pub mod Rules
+pub mod Loading
