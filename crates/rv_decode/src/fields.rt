@@ -1,6 +1,6 @@
 //! The fields of a word.
 
-ghost use Rattle.std.specs.Prelude.{◌≡◌, ◌<◌, ◌^◌, bit_and};
+ghost use Rattle.std.specs.Prelude.{◌≡◌, ◌*◌, ◌<◌, ◌^◌, bit_and};
 ghost use Rattle.rv_decode.specs.Table.{field, signed_field, rd_of, rs1_of, rs2_of, order_of, imm_i, imm_s, imm_b, imm_j};
 
 #[inline(always)]
