@@ -1,0 +1,56 @@
+//! The text of instructions, and an assembler that takes exactly such lines.
+//!
+//! A line is the text of an instruction whose fields are in range, or `.word 0x` and eight lower-case hexadecimal
+//! digits. Each line ends with a newline. Texts are those that RISC-V assemblers write, with numeric registers and
+//! each operand written out; docs/board.md has a table of them.
+#![tactic(auto)]
+
+ghost use Rattle.std.specs.Prelude.{◌≡◌, ℕ, ◌<◌, ◌^◌, [], ◌∷◌, ◌++◌, Some};
+ghost use Rattle.rv_decode.specs.declared.Instr.{Instr};
+ghost use Rattle.rv_decode.specs.Fits.{Fits};
+ghost use Rattle.rv_decode.specs.Table.{meaning};
+ghost use Rattle.rv_asm.specs.Text.{text};
+ghost use Rattle.rv_asm.specs.Grammar.{Spells};
+ghost use Rattle.rv_asm.specs.declared.AsmError.TheVariants.{NoMemory};
+
+mod assembler;
+mod names;
+mod scan;
+mod text;
+
+pub use assembler::assemble;
+use std::alloc::{AllocError, AllocFailed};
+pub use text::instr_text;
+use thiserror::Error;
+
+/// Why a text was not assembled.
+#[derive(Clone, Copy, Debug, PartialEq, Eq, Error)]
+pub enum AsmError {
+    /// The first line that is not in the grammar, numbered from 0.
+    #[error("line {0} is not in the grammar")]
+    BadLine(u64),
+    #[error("out of memory")]
+    NoMemory,
+}
+
+impl From<AllocError> for AsmError {
+    ghost from_gives = { λ _ e. e ≡ NoMemory };
+
+    fn from(_e: AllocError) -> AsmError {
+        AsmError::NoMemory
+    }
+}
+
+impl<T: Drop> From<AllocFailed<T>> for AsmError {
+    ghost from_gives = { λ _ e. e ≡ NoMemory };
+
+    fn from(_e: AllocFailed<T>) -> AsmError {
+        AsmError::NoMemory
+    }
+}
+
+/// The text of an instruction with a newline spells its word, so `assemble` gives that word.
+#[tactic(auto, using(crate::proofs::Lines::one_line))]
+pub fn text_assembles()
+    ensures { (i : Instr) (w : ℕ) → Fits i → w < 2 ^ 32 → meaning w ≡ Some i → Spells (w ∷ []) [] (text i ++ (10 ∷ [])) }
+{}
