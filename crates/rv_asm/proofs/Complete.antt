@@ -108,7 +108,7 @@ order_key order =
     else if order == 2 then 0x772e6171
     else 0x772e6171726c
 
-below_4 : (P : ℕ → Type 0) → P 0 → P 1 → P 2 → P 3 → (n : ℕ) → n < 4 → P n
+pub below_4 : (P : ℕ → Type 0) → P 0 → P 1 → P 2 → P 3 → (n : ℕ) → n < 4 → P n
 below_4 P a b c d zero h = a
 below_4 P a b c d (suc zero) h = b
 below_4 P a b c d (suc (suc zero)) h = c
@@ -306,25 +306,25 @@ before_step csr_op.Csrrwi k t n p q c h pm m = refl
 before_step csr_op.Csrrsi k t n p q c h pm m = refl
 before_step csr_op.Csrrci k t n p q c h pm m = refl
 
-wide : (n : ℕ) → n < 32 → n < 2 ^ 32
+pub wide : (n : ℕ) → n < 32 → n < 2 ^ 32
 wide n h = omega arith
 
 low_small : (n : ℕ) → n < 32 → low n ≡ n
 low_small n h = omega arith
 
-size_11 : (z : ℤ) → IsSigned 11 z → size_of z < 2 ^ 21
+pub size_11 : (z : ℤ) → IsSigned 11 z → size_of z < 2 ^ 21
 size_11 (pos a) h = omega arith
 size_11 (negsuc a) h = omega arith
 
-size_12 : (z : ℤ) → IsSigned 12 z → size_of z < 2 ^ 21
+pub size_12 : (z : ℤ) → IsSigned 12 z → size_of z < 2 ^ 21
 size_12 (pos a) h = omega arith
 size_12 (negsuc a) h = omega arith
 
-size_20 : (z : ℤ) → IsSigned 20 z → size_of z < 2 ^ 21
+pub size_20 : (z : ℤ) → IsSigned 20 z → size_of z < 2 ^ 21
 size_20 (pos a) h = omega arith
 size_20 (negsuc a) h = omega arith
 
-wider_size : (n : ℕ) → n < 2 ^ 21 → n < 2 ^ 32
+pub wider_size : (n : ℕ) → n < 2 ^ 21 → n < 2 ^ 32
 wider_size n h = omega arith
 
 high_part : (n : ℕ) → n % 2 ^ 12 ≡ 0 → n < 2 ^ 32 → n / 2 ^ 12 % 2 ^ 20 * 2 ^ 12 ≡ n

@@ -11,9 +11,7 @@ use Rattle.rv_decode.specs.Table.{meaning}
 use Rattle.rv_decode.proofs.Encoding.{meaning_encoded}
 use Rattle.rv_asm.specs.declared.scan.Line.{Line}
 use Rattle.rv_asm.specs.declared.scan.Line.TheVariants.{Text, Word}
-use Rattle.rv_asm.specs.declared.scan.Phase.TheVariants.{Dead}
-use Rattle.rv_asm.specs.declared.scan.Scan.{Scan}
-use Rattle.rv_asm.specs.Scan.{start, step, in_phase, line_of}
+use Rattle.rv_asm.specs.Scan.{start, step, line_of}
 use Rattle.rv_decode.specs.Fits.{Fits}
 use Rattle.rv_asm.specs.Text.{text}
 use Rattle.rv_asm.specs.Grammar.{Stands, Spells, Stops, IsLine, IsCut, FailsAt, FailsWith}
@@ -22,6 +20,7 @@ use Rattle.rv_asm.specs.declared.AsmError.{AsmError}
 use Rattle.rv_asm.specs.declared.AsmError.TheVariants.{BadLine, NoMemory}
 use Rattle.std.proofs.Math.Seq.{take-length}
 use Rattle.rv_asm.proofs.Complete.{complete}
+use Rattle.rv_asm.proofs.Clean.{line_clean}
 
 -- a line of the grammar, by what a pass makes of it
 abbrev Reads : List ℕ → ℕ → Type 0
@@ -62,35 +61,10 @@ one_word bytes w v s t =
     let r = reads bytes v t in
     means_one r.0 w v (subst (λ l. MeansWord l w) (same_line bytes r.0 w (found bytes v t) s) (reads bytes w s).3) r.3
 
--- a newline ends every hope of a line
-
-abbrev dead : Scan → Scan
-dead s = record s { phase = Dead }
-
-same_either : (q : Bool) (s : Scan) → cond q s s ≡ s
-same_either true s = refl
-same_either false s = refl
-
-step_dead : (s : Scan) (b : ℕ) → step (dead s) b ≡ dead s
-step_dead s b = same_either (b == 10) (dead s)
-
-all_dead : (bs : List ℕ) (s : Scan) → line_of (fold step (dead s) bs) ≡ None
-all_dead [] s = refl
-all_dead (b ∷ bs) s = ap (λ v. line_of (fold step v bs)) (step_dead s b) ∙ all_dead bs s
-
-not_dead : (q : Bool) (b : ℕ) (bs : List ℕ) (s : Scan) (l : Line) → (b == 10) ≡ q → line_of (fold step (step s b) bs) ≡ Some l → (b == 10) ≡ false
-not_dead true b bs s l e h =
-    let k : step s b ≡ dead s = ap (λ v. cond v (dead s) (in_phase s.phase s b)) e in
-    let d : line_of (fold step (step s b) bs) ≡ None = ap (λ v. line_of (fold step v bs)) k ∙ all_dead bs s in
-    let bad : ⊥ = cc in absurd bad
-not_dead false b bs s l e h = e
-
-clean : (bs : List ℕ) (s : Scan) (l : Line) → line_of (fold step s bs) ≡ Some l → IsLine bs
-clean [] s l h = tt
-clean (b ∷ bs) s l h = (not_dead (b == 10) b bs s l refl h, clean bs (step s b) l h)
-
 stands_clean : (bytes : List ℕ) (w : ℕ) → Stands bytes w → IsLine bytes
-stands_clean bytes w s = clean bytes start (reads bytes w s).0 (found bytes w s)
+stands_clean bytes w s =
+    let r = reads bytes w s in
+    subst IsLine (sym r.2) (line_clean r.0 r.1)
 
 -- the first newline
 

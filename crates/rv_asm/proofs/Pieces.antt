@@ -16,7 +16,7 @@ use Rattle.rv_asm.specs.Scan.{step, ten, sixteen, signed_of}
 abbrev pub ops : ℕ → ℕ → ℕ → ℕ → ℕ → ℕ → Bool → ℕ → ℕ → Bool → Scan
 ops k x t n p q pm c h m = record { phase = Operands; key = k; suffix = x; third = t; second = n; previous = p; previous_hex = q; previous_minus = pm; current = c; current_hex = h; current_minus = m }
 
-not_newline : (b : ℕ) → digit_value b < 16 → (b == 10) ≡ false
+pub not_newline : (b : ℕ) → digit_value b < 16 → (b == 10) ≡ false
 not_newline b d = grind (arith, nat_tests)
 
 is_digit : (b : ℕ) → digit_value b < 16 → nat_lt (digit_value b) 16 ≡ true
@@ -24,9 +24,8 @@ is_digit b d = grind (arith, nat_tests)
 
 one : (b : ℕ) (k x t n p q : ℕ) (pm : Bool) (c h : ℕ) (m : Bool) → digit_value b < 16 → step (ops k x t n p q pm c h m) b ≡ ops k x t n p q pm (ten c b) (sixteen h b) m
 one b k x t n p q pm c h m d =
-    let e : (b == 10) ≡ false = not_newline b d in
     let f : nat_lt (digit_value b) 16 ≡ true = is_digit b d in
-    rw (e, f)
+    rw f
 
 -- digits move nothing but the number that is being read
 pub run : (ds : List ℕ) (k x t n p q : ℕ) (pm : Bool) (c h : ℕ) (m : Bool) → AllDigits 16 ds → fold step (ops k x t n p q pm c h m) ds ≡ ops k x t n p q pm (fold ten c ds) (fold sixteen h ds) m
@@ -68,10 +67,10 @@ wider : (ds : List ℕ) → AllDigits 10 ds → AllDigits 16 ds
 wider [] d = d
 wider (b ∷ ds) d = (omega (arith, d.0), wider ds d.1)
 
-decimal_digits : (n : ℕ) → n < 2 ^ 32 → AllDigits 16 (decimal n)
+pub decimal_digits : (n : ℕ) → n < 2 ^ 32 → AllDigits 16 (decimal n)
 decimal_digits n h = wider (decimal n) ((decimal_is_IsNumeral n (omega arith)).0.1)
 
-hex_digits : (n : ℕ) → n < 2 ^ 32 → AllDigits 16 (digits 16 false n)
+pub hex_digits : (n : ℕ) → n < 2 ^ 32 → AllDigits 16 (digits 16 false n)
 hex_digits n h =
     let b : n < 16 ^ 64 = omega arith in
     (digits_is_IsNumeral 16 false (omega arith) (omega arith) n b).0.1
@@ -133,13 +132,13 @@ is_hex d h = omega (arith, hex_value d h)
 hex_3_value : (n : ℕ) → n < 2 ^ 12 → fold sixteen 0 (hex_3 n) ≡ n
 hex_3_value n b = next (0) (n / 2 ^ 8) (n / 2 ^ 8) (hex (n / 2 ^ 4 % 16) ∷ hex (n % 16) ∷ []) (omega arith) (omega arith) (omega arith) ∙ next (n / 2 ^ 8) (n / 2 ^ 4 % 16) (n / 2 ^ 4) (hex (n % 16) ∷ []) (omega arith) (omega arith) (omega arith) ∙ next (n / 2 ^ 4) (n % 16) (n) ([]) (omega arith) (omega arith) (omega arith)
 
-hex_3_digits : (n : ℕ) → n < 2 ^ 12 → AllDigits 16 (hex_3 n)
+pub hex_3_digits : (n : ℕ) → n < 2 ^ 12 → AllDigits 16 (hex_3 n)
 hex_3_digits n b = (is_hex (n / 2 ^ 8) (omega arith), (is_hex (n / 2 ^ 4 % 16) (omega arith), (is_hex (n % 16) (omega arith), tt)))
 
 hex_8_value : (n : ℕ) → n < 2 ^ 32 → fold sixteen 0 (hex_8 n) ≡ n
 hex_8_value n b = next (0) (n / 2 ^ 16 / 2 ^ 12) (n / 2 ^ 28) (hex (n / 2 ^ 16 / 2 ^ 8 % 16) ∷ hex (n / 2 ^ 16 / 2 ^ 4 % 16) ∷ hex (n / 2 ^ 16 % 16) ∷ hex (n % 2 ^ 16 / 2 ^ 12) ∷ hex (n % 2 ^ 16 / 2 ^ 8 % 16) ∷ hex (n % 2 ^ 16 / 2 ^ 4 % 16) ∷ hex (n % 2 ^ 16 % 16) ∷ []) (omega arith) (omega arith) (omega arith) ∙ next (n / 2 ^ 28) (n / 2 ^ 16 / 2 ^ 8 % 16) (n / 2 ^ 24) (hex (n / 2 ^ 16 / 2 ^ 4 % 16) ∷ hex (n / 2 ^ 16 % 16) ∷ hex (n % 2 ^ 16 / 2 ^ 12) ∷ hex (n % 2 ^ 16 / 2 ^ 8 % 16) ∷ hex (n % 2 ^ 16 / 2 ^ 4 % 16) ∷ hex (n % 2 ^ 16 % 16) ∷ []) (omega arith) (omega arith) (omega arith) ∙ next (n / 2 ^ 24) (n / 2 ^ 16 / 2 ^ 4 % 16) (n / 2 ^ 20) (hex (n / 2 ^ 16 % 16) ∷ hex (n % 2 ^ 16 / 2 ^ 12) ∷ hex (n % 2 ^ 16 / 2 ^ 8 % 16) ∷ hex (n % 2 ^ 16 / 2 ^ 4 % 16) ∷ hex (n % 2 ^ 16 % 16) ∷ []) (omega arith) (omega arith) (omega arith) ∙ next (n / 2 ^ 20) (n / 2 ^ 16 % 16) (n / 2 ^ 16) (hex (n % 2 ^ 16 / 2 ^ 12) ∷ hex (n % 2 ^ 16 / 2 ^ 8 % 16) ∷ hex (n % 2 ^ 16 / 2 ^ 4 % 16) ∷ hex (n % 2 ^ 16 % 16) ∷ []) (omega arith) (omega arith) (omega arith) ∙ next (n / 2 ^ 16) (n % 2 ^ 16 / 2 ^ 12) (n / 2 ^ 12) (hex (n % 2 ^ 16 / 2 ^ 8 % 16) ∷ hex (n % 2 ^ 16 / 2 ^ 4 % 16) ∷ hex (n % 2 ^ 16 % 16) ∷ []) (omega arith) (omega arith) (omega arith) ∙ next (n / 2 ^ 12) (n % 2 ^ 16 / 2 ^ 8 % 16) (n / 2 ^ 8) (hex (n % 2 ^ 16 / 2 ^ 4 % 16) ∷ hex (n % 2 ^ 16 % 16) ∷ []) (omega arith) (omega arith) (omega arith) ∙ next (n / 2 ^ 8) (n % 2 ^ 16 / 2 ^ 4 % 16) (n / 2 ^ 4) (hex (n % 2 ^ 16 % 16) ∷ []) (omega arith) (omega arith) (omega arith) ∙ next (n / 2 ^ 4) (n % 2 ^ 16 % 16) (n) ([]) (omega arith) (omega arith) (omega arith)
 
-hex_8_digits : (n : ℕ) → n < 2 ^ 32 → AllDigits 16 (hex_8 n)
+pub hex_8_digits : (n : ℕ) → n < 2 ^ 32 → AllDigits 16 (hex_8 n)
 hex_8_digits n b = (is_hex (n / 2 ^ 16 / 2 ^ 12) (omega arith), (is_hex (n / 2 ^ 16 / 2 ^ 8 % 16) (omega arith), (is_hex (n / 2 ^ 16 / 2 ^ 4 % 16) (omega arith), (is_hex (n / 2 ^ 16 % 16) (omega arith), (is_hex (n % 2 ^ 16 / 2 ^ 12) (omega arith), (is_hex (n % 2 ^ 16 / 2 ^ 8 % 16) (omega arith), (is_hex (n % 2 ^ 16 / 2 ^ 4 % 16) (omega arith), (is_hex (n % 2 ^ 16 % 16) (omega arith), tt))))))))
 
 pub eat_hex_3 : (a : ℕ) (rest : List ℕ) (k x t n p q : ℕ) (pm m : Bool) → a < 2 ^ 12 → fold step (ops k x t n p q pm 0 0 m) (hex_3 a ++ rest) ≡ fold step (ops k x t n p q pm (aside_ten (hex_3 a)) a m) rest

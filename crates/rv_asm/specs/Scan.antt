@@ -11,7 +11,7 @@ use Rattle.rv_asm.specs.Text.{text, with_word}
 use Rattle.rv_asm.specs.declared.scan.Line.{Line}
 use Rattle.rv_asm.specs.declared.scan.Line.TheVariants.{Text, Word}
 use Rattle.rv_asm.specs.declared.scan.Phase.{Phase}
-use Rattle.rv_asm.specs.declared.scan.Phase.TheVariants.{Name, Suffix, Operands, Dead}
+use Rattle.rv_asm.specs.declared.scan.Phase.TheVariants.{Name, Suffix, Operands}
 use Rattle.rv_asm.specs.declared.scan.Scan.{Scan}
 
 abbrev pub start : Scan
@@ -50,10 +50,9 @@ abbrev pub in_phase : Phase → Scan → ℕ → Scan
 in_phase Name s b = named s b
 in_phase Suffix s b = suffixed s b
 in_phase Operands s b = operand s b
-in_phase Dead s b = s
 
 abbrev pub step : Scan → ℕ → Scan
-step s b = if b == 10 then record s { phase = Dead } else in_phase s.phase s b
+step s b = in_phase s.phase s b
 
 -- a number with its sign, as far as an operand can go
 abbrev pub signed_of : Bool → ℕ → ℤ
@@ -126,7 +125,6 @@ abbrev pub line_in : Phase → Scan → Option Line
 line_in Name s = bare_line s.key
 line_in Suffix s = None
 line_in Operands s = if s.suffix == 0 then plain_line s else dotted_line s
-line_in Dead s = None
 
 -- the one line that the bytes can be
 abbrev pub line_of : Scan → Option Line

@@ -23,7 +23,6 @@ enum Phase {
     Name,
     Suffix,
     Operands,
-    Dead,
 }
 
 /// What one pass over a line keeps of it.
@@ -135,17 +134,10 @@ fn operand(s: Scan, b: u8) -> Scan
 fn step(s: Scan, b: u8) -> Scan
     ensures { result ≡ step s b }
 {
-    if b == 10 {
-        return Scan {
-            phase: Phase::Dead,
-            ..s
-        };
-    }
     match s.phase {
         Phase::Name => named(s, b),
         Phase::Suffix => suffixed(s, b),
         Phase::Operands => operand(s, b),
-        Phase::Dead => s,
     }
 }
 
@@ -398,6 +390,5 @@ pub fn line_of(s: Scan) -> Option<Line>
         } else {
             dotted_line(s)
         },
-        Phase::Dead => None,
     }
 }
