@@ -74,27 +74,47 @@ numbered name a z i f g =
 
 two_and_number : (name : List ℕ) (a b : ℕ) (z : ℤ) → IsLine name → a < 2 ^ 32 → b < 2 ^ 32 → size_of z < 2 ^ 32 → IsLine (with_two_and_number name a b z)
 two_and_number name a b z i f g h =
-    joined name (codes " x" ++ (decimal a ++ (codes ", x" ++ (decimal b ++ (codes ", " ++ signed_decimal z))))) i
-    (refl, (refl, dec_on a (codes ", x" ++ (decimal b ++ (codes ", " ++ signed_decimal z))) f
-    (refl, (refl, (refl, dec_on b (codes ", " ++ signed_decimal z) g (refl, (refl, number z h)))))))
+    joined name (codes " x" ++ (decimal a ++ (codes ", x" ++ (decimal b ++ (codes ", " ++ signed_decimal z))))) i (
+      refl,
+      (
+        refl,
+        dec_on a (codes ", x" ++ (decimal b ++ (codes ", " ++ signed_decimal z))) f
+            (refl, (refl, (refl, dec_on b (codes ", " ++ signed_decimal z) g (refl, (refl, number z h))))),
+      ),
+    )
 
 three : (name : List ℕ) (a b c : ℕ) → IsLine name → a < 2 ^ 32 → b < 2 ^ 32 → c < 2 ^ 32 → IsLine (with_three name a b c)
 three name a b c i f g h =
-    joined name (codes " x" ++ (decimal a ++ (codes ", x" ++ (decimal b ++ (codes ", x" ++ decimal c))))) i
-    (refl, (refl, dec_on a (codes ", x" ++ (decimal b ++ (codes ", x" ++ decimal c))) f
-    (refl, (refl, (refl, dec_on b (codes ", x" ++ decimal c) g (refl, (refl, (refl, dec c h))))))))
+    joined name (codes " x" ++ (decimal a ++ (codes ", x" ++ (decimal b ++ (codes ", x" ++ decimal c))))) i (
+      refl,
+      (
+        refl,
+        dec_on a (codes ", x" ++ (decimal b ++ (codes ", x" ++ decimal c))) f
+            (refl, (refl, (refl, dec_on b (codes ", x" ++ decimal c) g (refl, (refl, (refl, dec c h)))))),
+      ),
+    )
 
 place : (name : List ℕ) (a : ℕ) (z : ℤ) (b : ℕ) → IsLine name → a < 2 ^ 32 → size_of z < 2 ^ 32 → b < 2 ^ 32 → IsLine (with_place name a z b)
 place name a z b i f g h =
-    joined name (codes " x" ++ (decimal a ++ (codes ", " ++ (signed_decimal z ++ (codes "(x" ++ (decimal b ++ codes ")")))))) i
-    (refl, (refl, dec_on a (codes ", " ++ (signed_decimal z ++ (codes "(x" ++ (decimal b ++ codes ")")))) f
-    (refl, (refl, number_on z (codes "(x" ++ (decimal b ++ codes ")")) g (refl, (refl, dec_on b (codes ")") h (refl, tt)))))))
+    joined name (codes " x" ++ (decimal a ++ (codes ", " ++ (signed_decimal z ++ (codes "(x" ++ (decimal b ++ codes ")")))))) i (
+      refl,
+      (
+        refl,
+        dec_on a (codes ", " ++ (signed_decimal z ++ (codes "(x" ++ (decimal b ++ codes ")")))) f
+            (refl, (refl, number_on z (codes "(x" ++ (decimal b ++ codes ")")) g (refl, (refl, dec_on b (codes ")") h (refl, tt))))),
+      ),
+    )
 
 csr_number : (name before : List ℕ) (a n b : ℕ) → IsLine name → IsLine before → a < 2 ^ 32 → n < 2 ^ 12 → b < 2 ^ 32 → IsLine (with_csr name a n before b)
 csr_number name before a n b i j f g h =
-    joined name (codes " x" ++ (decimal a ++ (codes ", 0x" ++ (hex_3 n ++ (before ++ decimal b))))) i
-    (refl, (refl, dec_on a (codes ", 0x" ++ (hex_3 n ++ (before ++ decimal b))) f
-    (refl, (refl, (refl, (refl, joined (hex_3 n) (before ++ decimal b) (digits_line (hex_3 n) (hex_3_digits n g)) (joined before (decimal b) j (dec b h))))))))
+    joined name (codes " x" ++ (decimal a ++ (codes ", 0x" ++ (hex_3 n ++ (before ++ decimal b))))) i (
+      refl,
+      (
+        refl,
+        dec_on a (codes ", 0x" ++ (hex_3 n ++ (before ++ decimal b))) f
+            (refl, (refl, (refl, (refl, joined (hex_3 n) (before ++ decimal b) (digits_line (hex_3 n) (hex_3_digits n g)) (joined before (decimal b) j (dec b h)))))),
+      ),
+    )
 
 order_line : (order : ℕ) → order < 4 → IsLine (order_suffix order)
 order_line order h = below_4 (λ o. IsLine (order_suffix o)) tt (refl, (refl, (refl, tt))) (refl, (refl, (refl, tt))) (refl, (refl, (refl, (refl, (refl, tt))))) order h
@@ -108,10 +128,23 @@ address name order a b i o f g =
 two_and_address : (name : List ℕ) (order a b c : ℕ) → IsLine name → order < 4 → a < 2 ^ 32 → b < 2 ^ 32 → c < 2 ^ 32 → IsLine (with_two_and_address name order a b c)
 two_and_address name order a b c i o f g h =
     joined name (order_suffix order ++ (codes " x" ++ (decimal a ++ (codes ", x" ++ (decimal b ++ (codes ", (x" ++ (decimal c ++ codes ")"))))))) i
-    (joined (order_suffix order) (codes " x" ++ (decimal a ++ (codes ", x" ++ (decimal b ++ (codes ", (x" ++ (decimal c ++ codes ")")))))) (order_line order o)
-    (refl, (refl, dec_on a (codes ", x" ++ (decimal b ++ (codes ", (x" ++ (decimal c ++ codes ")")))) f
-    (refl, (refl, (refl, dec_on b (codes ", (x" ++ (decimal c ++ codes ")")) g
-    (refl, (refl, (refl, (refl, dec_on c (codes ")") h (refl, tt)))))))))))
+    (joined (order_suffix order) (codes " x" ++ (decimal a ++ (codes ", x" ++ (decimal b ++ (codes ", (x" ++ (decimal c ++ codes ")")))))) (order_line order o) (
+      refl,
+      (
+        refl,
+        dec_on a (codes ", x" ++ (decimal b ++ (codes ", (x" ++ (decimal c ++ codes ")")))) f (
+          refl,
+          (
+            refl,
+            (
+              refl,
+              dec_on b (codes ", (x" ++ (decimal c ++ codes ")")) g
+                  (refl, (refl, (refl, (refl, dec_on c (codes ")") h (refl, tt))))),
+            ),
+          ),
+        ),
+      ),
+    ))
 
 worded : (name : List ℕ) (n : ℕ) → IsLine name → n < 2 ^ 32 → IsLine (with_word name n)
 worded name n i g = joined name (codes " 0x" ++ hex_8 n) i (refl, (refl, (refl, digits_line (hex_8 n) (hex_8_digits n g))))

@@ -103,7 +103,8 @@ bare_line key =
     else None
 
 abbrev pub plain_line : Scan → Option Line
-plain_line s = option_or (upper_line s) (option_or (branch_line s) (option_or (load_line s) (option_or (store_line s) (option_or (imm_line s) (option_or (shift_line s) (option_or (reg_line s) (option_or (csr_line s) (jump_line s))))))))
+plain_line s =
+    option_or (option_or (option_or (option_or (option_or (option_or (option_or (option_or (upper_line s) (branch_line s)) (load_line s)) (store_line s)) (imm_line s)) (shift_line s)) (reg_line s)) (csr_line s)) (jump_line s)
 
 abbrev pub amo_line : Scan → ℕ → Option Line
 amo_line s order = option_map (λ op. Text (Amo op (low s.third) (low s.current) (low s.second) order)) (amo_named s.key)

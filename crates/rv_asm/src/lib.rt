@@ -54,3 +54,6 @@ impl<T: Drop> From<AllocFailed<T>> for AsmError {
 pub fn text_assembles()
     ensures { (i : Instr) (w : ℕ) → Fits i → w < 2 ^ 32 → meaning w ≡ Some i → Spells (w ∷ []) [] (text i ++ (10 ∷ [])) }
 {}
+
+#[cfg(test)]
+mod tests;

@@ -18,6 +18,7 @@ pub enum Line {
     Word(u32),
 }
 
+/// The part of a line that a pass is in; `Suffix` is what stands behind a dot in the name.
 #[derive(Clone, Copy)]
 enum Phase {
     Name,
@@ -25,7 +26,9 @@ enum Phase {
     Operands,
 }
 
-/// What one pass over a line keeps of it.
+/// What one pass over a line keeps of it: its name up to a dot and what stands behind the dot, each as one number in
+/// base 256, and its last four operands. Each operand is read in decimal, the last two in hexadecimal and with their
+/// sign too.
 #[derive(Clone, Copy)]
 pub struct Scan {
     phase: Phase,
@@ -325,9 +328,15 @@ fn bare_line(key: u64) -> Option<Line>
 fn plain_line(s: Scan) -> Option<Line>
     ensures { result ≡ plain_line s }
 {
-    upper_line(s).or(branch_line(s).or(load_line(s).or(store_line(s).or(imm_line(s).or(shift_line(
-        s,
-    ).or(reg_line(s).or(csr_line(s).or(jump_line(s)))))))))
+    upper_line(s)
+        .or(branch_line(s))
+        .or(load_line(s))
+        .or(store_line(s))
+        .or(imm_line(s))
+        .or(shift_line(s))
+        .or(reg_line(s))
+        .or(csr_line(s))
+        .or(jump_line(s))
 }
 
 fn amo_line(s: Scan, order: u8) -> Option<Line>
