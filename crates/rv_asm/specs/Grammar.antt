@@ -24,15 +24,6 @@ abbrev pub Spells : List ℕ → List ℕ → List ℕ → Type 0
 Spells [] rest bytes = bytes ≡ rest
 Spells (w ∷ ws) rest bytes = (line : List ℕ) × (more : List ℕ) × Stands line w × (bytes ≡ line ++ (10 ∷ more)) × Spells ws rest more
 
--- no newline is in it
-abbrev pub IsLine : List ℕ → Type 0
-IsLine [] = Unit {0}
-IsLine (b ∷ bs) = ((b == 10) ≡ false) × IsLine bs
-
--- the bytes are a line, a newline, and more
-abbrev pub IsCut : List ℕ → List ℕ → List ℕ → Type 0
-IsCut bytes line more = IsLine line × (bytes ≡ line ++ (10 ∷ more))
-
 -- no line of the grammar stands at the front
 abbrev pub Stops : List ℕ → Type 0
 Stops rest = (line more : List ℕ) (w : ℕ) → Stands line w → rest ≡ line ++ (10 ∷ more) → ⊥
@@ -41,6 +32,18 @@ Stops rest = (line more : List ℕ) (w : ℕ) → Stands line w → rest ≡ lin
 abbrev pub FailsAt : ℕ → List ℕ → Type 0
 FailsAt n bytes = (ws : List ℕ) × (rest : List ℕ) × (length ws ≡ n) × (0 < length rest) × Spells ws rest bytes × Stops rest
 
+-- what an error tells of the text
 abbrev pub FailsWith : AsmError → List ℕ → Type 0
 FailsWith (BadLine n) bytes = FailsAt n bytes
 FailsWith NoMemory bytes = Unit {0}
+
+-- Private functions alone promise what follows.
+
+-- no newline is in it
+abbrev pub IsLine : List ℕ → Type 0
+IsLine [] = Unit {0}
+IsLine (b ∷ bs) = ((b == 10) ≡ false) × IsLine bs
+
+-- the bytes are a line, a newline, and more
+abbrev pub IsCut : List ℕ → List ℕ → List ℕ → Type 0
+IsCut bytes line more = IsLine line × (bytes ≡ line ++ (10 ∷ more))

@@ -2,7 +2,7 @@
 //!
 //! A line is the text of an instruction whose fields are in range, or `.word 0x` and eight lower-case hexadecimal
 //! digits. Each line ends with a newline. Texts are those that RISC-V assemblers write, with numeric registers and
-//! each operand written out; docs/board.md has a table of them.
+//! each operand written out; specs/Text.antt has the form of each.
 #![tactic(auto)]
 
 ghost use Rattle.std.specs.Prelude.{◌≡◌, ℕ, ◌<◌, ◌^◌, [], ◌∷◌, ◌++◌, Some};
@@ -13,15 +13,16 @@ ghost use Rattle.rv_asm.specs.Text.{text};
 ghost use Rattle.rv_asm.specs.Grammar.{Spells};
 ghost use Rattle.rv_asm.specs.declared.AsmError.TheVariants.{NoMemory};
 
+use std::alloc::{AllocError, AllocFailed};
+use thiserror::Error;
+
 mod assembler;
 mod names;
 mod scan;
 mod text;
 
 pub use assembler::assemble;
-use std::alloc::{AllocError, AllocFailed};
 pub use text::instr_text;
-use thiserror::Error;
 
 /// Why a text was not assembled.
 #[derive(Clone, Copy, Debug, PartialEq, Eq, Error)]
