@@ -1,4 +1,5 @@
--- Start, interrupts, trap entry, MRET and counting.
+-- Start, interrupts, trap entry, MRET and counting, after the RISC-V Privileged manual, chapter "Machine-Level ISA". The
+-- reset values, and that mcycle counts moves, are the board's own rules (docs/board.md).
 use Rattle.std.specs.Prelude.{ℕ, ◌+◌, ◌*◌, ◌/◌, ◌%◌, ◌^◌, ◌==◌, ◌&&◌, ◌||◌, not, Bool, true, false, if◌then◌else◌, Option, Some, None, List, [], ◌∷◌}
 use Rattle.std.specs.List.{find}
 use Rattle.std.specs.Option.{option_map}

@@ -61,12 +61,14 @@ impl Csrs {
         }
     }
 
+    // MPP, bits 12:11, reads 3; MIE is bit 3 and MPIE bit 7.
     fn mstatus(&self) -> u32
         ensures { result ≡ mstatus self.now }
     {
         0x1800 + u32::from(self.status_mie) * 8 + u32::from(self.status_mpie) * 128
     }
 
+    // The software line is bit 3, the timer line bit 7.
     fn mip(&self) -> u32
         ensures { result ≡ mip self.now }
     {
@@ -99,7 +101,7 @@ impl Csrs {
     }
 
     /// Writes the register of a number. False, and nothing changed, exactly where there is no such
-    /// number or it may not be written.
+    /// register or bits 11:10 of its number are both 1.
     pub fn write(&mut self, number: u16, value: u32) -> bool
         ensures answer { result ≡ is_some (csr_written number value self.old) }
         ensures registers { self.new ≡ unwrap_or (csr_written number value self.old) self.old }
@@ -125,8 +127,8 @@ impl Csrs {
         true
     }
 
-    /// Enters a trap of the instruction at `at` with a cause and a value for mtval, and gives the new
-    /// pc. An interrupt's cause has its top bit set.
+    /// Enters an exception or interrupt at the pc `at`, with a cause and a value for mtval, and gives
+    /// the new pc. An interrupt's cause has its top bit set.
     pub fn enter_trap(&mut self, cause: u32, at: u32, value: u32) -> u32
         requires { at % 4 ≡ 0 }
         ensures registers { self.new ≡ trap_entered cause at value self.old }
