@@ -1,0 +1,5 @@
+pub mod Waits
+pub mod Room
+pub mod Size
+pub mod Parts
+pub mod Range
