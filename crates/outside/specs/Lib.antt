@@ -1,0 +1,10 @@
+pub mod Causes
+pub mod Fetching
+pub mod Numbered
+pub mod Consoles
+pub mod Clocks
+pub mod Sinks
+pub mod Files
+pub mod Rows
+pub mod Shelves
+pub mod Stored
