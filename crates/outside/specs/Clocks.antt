@@ -1,3 +1,4 @@
+-- What contracts see of the clock in memory.
 use Rattle.std.specs.Prelude.{ℕ, ◌+◌, ◌*◌, ◌-◌, ◌^◌, ◌++◌, ◌∷◌, List, [], min, zero, suc}
 
 -- a clock in memory: its first answer, the step to each further one, and how many it gave

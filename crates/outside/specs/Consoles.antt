@@ -1,3 +1,4 @@
+-- What contracts see of the consoles in memory.
 use Rattle.std.specs.Prelude.{ℕ, ◌++◌, ◌∷◌, List, [], zero, suc, unwrap_or, slice_get}
 use Rattle.outside.specs.declared.console.Asked.{Asked}
 use Rattle.outside.specs.Numbered.{Numbered}

@@ -1,3 +1,4 @@
+-- When a fetch may answer what.
 use Rattle.std.specs.Prelude.{◌≡◌, ℕ, ◌≤◌, ◌<◌, List, length, Option, Result, Ok, Err, IsSomeAnd, Bool, true, false}
 use Rattle.outside.specs.declared.shelf.FetchError.{FetchError}
 use Rattle.outside.specs.declared.shelf.FetchError.TheVariants.{Failed, TooLong, NoMemory}

@@ -1,15 +1,16 @@
-use Rattle.std.specs.Prelude.{◌≡◌, ◌+◌, ◌++◌, ℕ, List, [], ◌∷◌, length, cond, Option, Some, None, Bool, true, ◌&&◌, is_none}
+-- Files by their names: a file is its name and the bytes that it holds.
+use Rattle.std.specs.Prelude.{◌≡◌, ◌+◌, ◌++◌, ℕ, List, [], ◌∷◌, length, if◌then◌else◌, Option, Some, None, Bool, true, ◌&&◌, is_none}
 use Rattle.std.specs.Str.{bytes_eq}
 
--- what the file of this name holds: a file is its name and its bytes
+-- what the file of this name holds
 abbrev pub lookup : List ℕ → List (List ℕ × List ℕ) → Option (List ℕ)
 lookup n [] = None
-lookup n (f ∷ fs) = cond (bytes_eq f.0 n) (Some f.1) (lookup n fs)
+lookup n (f ∷ fs) = if bytes_eq f.0 n then Some f.1 else lookup n fs
 
 -- the files of other names
 abbrev pub without : List ℕ → List (List ℕ × List ℕ) → List (List ℕ × List ℕ)
 without n [] = []
-without n (f ∷ fs) = cond (bytes_eq f.0 n) (without n fs) (f ∷ without n fs)
+without n (f ∷ fs) = if bytes_eq f.0 n then without n fs else f ∷ without n fs
 
 -- the files with this one last, in the place of the one of its name
 abbrev pub replaced : List ℕ → List ℕ → List (List ℕ × List ℕ) → List (List ℕ × List ℕ)

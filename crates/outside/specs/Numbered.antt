@@ -1,3 +1,4 @@
+-- The numbered calls of the forms in memory.
 use Rattle.std.specs.Prelude.{ℕ, ◌+◌, ◌-◌, ◌^◌, min, List, Bool, nat_eq, if◌then◌else◌}
 use Rattle.std.specs.List.{list_any}
 

@@ -1,4 +1,5 @@
-use Rattle.std.specs.Prelude.{◌≡◌, ◌+◌, ◌≤◌, ◌<◌, ℕ, List, [], ◌∷◌, take, drop, length, Option, Some}
+-- How files stand behind one another in one text.
+use Rattle.std.specs.Prelude.{◌≡◌, ◌+◌, ◌≤◌, ◌<◌, ℕ, List, [], ◌∷◌, take, drop, length, Some}
 use Rattle.outside.specs.declared.folder.Row.{Row}
 use Rattle.outside.specs.Files.{lookup}
 

@@ -1,4 +1,5 @@
-use Rattle.std.specs.Prelude.{◌+◌, ◌++◌, ℕ, List, [], length, Bool, cond, Option, Some, None}
+-- What contracts see of the shelves in memory.
+use Rattle.std.specs.Prelude.{◌+◌, ◌++◌, ℕ, List, [], length, Bool, if◌then◌else◌, Option, Some, None}
 use Rattle.outside.specs.Files.{total}
 use Rattle.outside.specs.Numbered.{Numbered, calls_at_start}
 
@@ -34,4 +35,4 @@ appended (Some d) bytes = Some (d.0, d.1 ++ bytes)
 
 -- the name and the bytes being written, where something is
 abbrev pub draft_of : Bool → List ℕ → List ℕ → Option (List ℕ × List ℕ)
-draft_of writing name bytes = cond writing (Some (name, bytes)) None
+draft_of writing name bytes = if writing then Some (name, bytes) else None

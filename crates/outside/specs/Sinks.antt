@@ -1,3 +1,4 @@
+-- What contracts see of the sink in memory.
 use Rattle.std.specs.Prelude.{ℕ, List}
 use Rattle.outside.specs.Numbered.{Numbered}
 

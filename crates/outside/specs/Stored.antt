@@ -1,3 +1,4 @@
+-- How a shelf in memory is stored.
 use Rattle.std.specs.Prelude.{◌≡◌, ◌+◌, ◌≤◌, ℕ, List, length, Bool}
 use Rattle.outside.specs.declared.folder.Folder.{Folder}
 use Rattle.outside.specs.Files.{total}

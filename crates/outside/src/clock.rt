@@ -1,3 +1,5 @@
+//! The clock outside, and one in memory.
+
 ghost use Rattle.std.specs.Prelude.{◌≡◌, ◌++◌, ◌-◌, ◌^◌, ◌∷◌, ℕ, List, [], Bool, nat_lt, IsTrue};
 ghost use Rattle.outside.specs.Clocks.{tick_at, ticks};
 ghost use Rattle.outside.specs.Numbered.{one_more};

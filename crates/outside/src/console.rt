@@ -1,3 +1,5 @@
+//! The console outside, and those in memory.
+
 ghost use Rattle.std.specs.Prelude.{◌≡◌, ◌++◌, ◌≤◌, ◌&&◌, ◌∷◌, ℕ, List, [], Bool, true, false, not, length, nat_lt, ◌-◌, ◌^◌, IsTrue, OnOk, OnErr, IfOk, Ok, is_ok, if◌then◌else◌};
 ghost use Rattle.outside.specs.Causes.{HasCause};
 ghost use Rattle.outside.specs.Numbered.{calls_at_start, fails_next, after_call, one_more};

@@ -1,3 +1,5 @@
+//! The gate that workers pass, and the two that there are.
+
 ghost use Rattle.std.specs.Prelude.{◌≡◌};
 
 use std::hint::spin_loop;

@@ -1,3 +1,5 @@
+//! A shelf in memory, whose calls fail where it is told.
+
 ghost use Rattle.std.specs.Prelude.{◌≡◌, ◌≢◌, ◌++◌, ◌+◌, ◌≤◌, ◌<◌, ◌↔◌, ◌&&◌, ℕ, List, [], Bool, true, false, not, length, IsTrue, OnOk, OnErr, IfOk, IfSome, is_ok, is_some, nat_le, option_map, Option, Some, None, Err, Result, if◌then◌else◌, refl};
 ghost use Rattle.outside.specs.Causes.{HasCause};
 ghost use Rattle.outside.specs.Fetching.{HasFetchCause, IsPast, has_failed};

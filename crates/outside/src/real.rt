@@ -1,5 +1,7 @@
 //! The adapters over the real terminal and clock. They tell nothing of what these hold.
-ghost use Rattle.std.specs.Prelude.{◌≡◌, ℕ, List, [], Bool, false};
+ghost use Rattle.std.specs.Prelude.{◌≡◌, ◌≢◌, ℕ, List, [], Bool, false, IfOk};
+ghost use Rattle.outside.specs.Causes.{HasCause};
+ghost use Rattle.outside.specs.declared.console.Asked.{Asked};
 
 use crate::{Asked, Clock, Console, Failed, Sink};
 use std::io::{ErrorKind, Read, Write};
@@ -26,7 +28,9 @@ impl<R: Read + Send + Drop, W: Write + Send + Drop> StdConsole<R, W> {
 }
 
 /// The next byte. A read that was interrupted is made again.
-fn read_byte<R: Read>(input: &mut R) -> Result<Asked, Failed> {
+fn read_byte<R: Read>(input: &mut R) -> Result<Asked, Failed>
+    ensures { IfOk result (λ asked. asked ≢ Asked.Nothing) }
+{
     let mut buf = [0u8; 1];
     for _ in 0..u64::MAX {
         match input.read(&mut buf) {
@@ -53,7 +57,10 @@ impl<R: Read + Send + Drop, W: Write + Send + Drop> Console for StdConsole<R, W>
 
     ghost faults = { λ c. c.faults };
 
-    fn poll(&mut self) -> Result<Asked, Failed> {
+    fn poll(&mut self) -> Result<Asked, Failed>
+        ensures waits { IfOk result (λ asked. asked ≢ Asked.Nothing) }
+        ensures cause { HasCause self.old.faults self.new.faults result }
+    {
         let result = read_byte(&mut self.input);
         if result.is_err() {
             self.faults = self.faults.saturating_add(1);

@@ -1,4 +1,6 @@
-ghost use Rattle.std.specs.Prelude.{◌≡◌, ◌++◌, ◌+◌, ◌≤◌, ◌&&◌, ℕ, List, [], Bool, true, false, not, take, length, IsTrue, OnOk, OnErr, IfOk, is_ok, nat_le, zero, if◌then◌else◌};
+//! The sink of the report, and those in memory.
+
+ghost use Rattle.std.specs.Prelude.{◌≡◌, ◌++◌, ◌+◌, ◌≤◌, ◌&&◌, ℕ, List, [], Bool, true, false, not, take, length, IsTrue, OnOk, OnErr, IfOk, is_ok, IsOk, nat_le, zero, if◌then◌else◌};
 ghost use Rattle.outside.specs.Causes.{HasCause};
 ghost use Rattle.outside.specs.Numbered.{calls_at_start, fails_next, after_call};
 
@@ -101,7 +103,9 @@ impl Sink for SureSink {
 
     ghost faults = { λ _. 0 };
 
-    fn put(&mut self, _bytes: &[u8]) -> Result<(), Failed> {
+    fn put(&mut self, _bytes: &[u8]) -> Result<(), Failed>
+        ensures { IsOk result }
+    {
         Ok(())
     }
 }

@@ -1,3 +1,5 @@
+//! A shelf in memory that never fails.
+
 ghost use Rattle.std.specs.Prelude.{◌≡◌, ◌≢◌, ◌+◌, ◌≤◌, ◌↔◌, ℕ, List, [], Bool, true, false, length, IsTrue, IsSome, IfOk, Option, Some, None, if◌then◌else◌, IsOk, Err, Result};
 ghost use Rattle.outside.specs.Files.{lookup, without, replaced, total};
 ghost use Rattle.outside.specs.Fetching.{IsPast};
