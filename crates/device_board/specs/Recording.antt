@@ -1,0 +1,37 @@
+-- What an access of a device word asks of console and clock when a run is recorded, and the input that it has so.
+use Rattle.std.specs.Prelude.{ℕ, ◌%◌, ◌^◌, max, Bool, true, false, Option, Some, None, List, [], ◌∷◌}
+use Rattle.rv_words.specs.declared.shared.Input.{Input}
+use Rattle.rv_words.specs.declared.shared.Input.TheVariants.{Nothing, Empty, Byte, Time}
+use Rattle.rv_words.specs.declared.shared.DeviceWord.{DeviceWord}
+use Rattle.rv_words.specs.declared.shared.DeviceWord.TheVariants.{TimeLow, TimeHigh, Rx, Tx}
+use Rattle.outside.specs.declared.console.Asked.{Asked}
+use Rattle.outside.specs.declared.console.Asked.TheVariants as asked
+
+-- what the console answers is the input of a load of RX; the end of its input is no byte
+abbrev pub input_of : Asked → Input
+input_of (asked.Byte b) = Byte b
+input_of asked.Nothing = Empty
+input_of asked.End = Empty
+
+-- the input of an access, where mtime is `mtime`, the clock answered `now`, and the console answers `a`
+abbrev pub recorded_input : DeviceWord → Option ℕ → ℕ → ℕ → Asked → Input
+recorded_input Rx None mtime now a = input_of a
+recorded_input TimeLow None mtime now a = Time (max mtime now)
+recorded_input TimeHigh None mtime now a = Time (max mtime now)
+recorded_input word store mtime now a = Nothing
+
+-- the answers that the access takes of the console: the one answer for a load of RX
+abbrev pub answers_taken : DeviceWord → Option ℕ → Asked → List Asked
+answers_taken Rx None a = a ∷ []
+answers_taken word store a = []
+
+-- the bytes that the access gives to the console: the low byte for a store to TX
+abbrev pub bytes_given : DeviceWord → Option ℕ → List ℕ
+bytes_given Tx (Some v) = v % 2 ^ 8 ∷ []
+bytes_given word store = []
+
+-- the access is one for which the console is called
+abbrev pub uses_console : DeviceWord → Option ℕ → Bool
+uses_console Rx None = true
+uses_console Tx (Some v) = true
+uses_console word store = false
