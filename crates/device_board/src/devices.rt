@@ -137,6 +137,13 @@ impl Devices {
         self.sent.as_slice()
     }
 
+    /// Gives up the bytes sent to the console, in order. It takes no memory.
+    pub fn into_sent(self) -> Vec<u8>
+        ensures { result.items ≡ self.devices.sent }
+    {
+        self.sent
+    }
+
     fn load_time(&mut self, time: u64, half: u32) -> Option<u32>
         ensures devices { MadeAgain (timed self.old.devices time half) self.old.devices self.new.devices result }
         ensures harts { self.new.devices.harts ≡ self.old.devices.harts }

@@ -160,6 +160,7 @@ fn the_console_gives_and_takes(rt: HostRuntime) -> Result<(), Fail> {
     );
     assert_eq!(rt; (devices.stop(), devices.time()), (Some(0), 5));
     assert_eq!(rt; devices.sent(), [0x78u8].as_slice());
+    assert_eq!(rt; devices.into_sent().as_slice(), [0x78u8].as_slice());
     assert_eq!(rt; console.taken(), [0x78u8].as_slice());
     Ok(())
 }

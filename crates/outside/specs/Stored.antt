@@ -2,13 +2,13 @@
 use Rattle.std.specs.Prelude.{◌≡◌, ◌+◌, ◌≤◌, ℕ, List, length, Bool}
 use Rattle.outside.specs.declared.folder.Folder.{Folder}
 use Rattle.outside.specs.Files.{total}
-use Rattle.outside.specs.Rows.{files}
+use Rattle.outside.specs.Rows.{files, rows}
 use Rattle.outside.specs.Sinks.{TrayState}
 use Rattle.outside.specs.Shelves.{draft_of, draft_size}
 
 -- the files of a folder
 abbrev pub contents : Folder → List (List ℕ × List ℕ)
-contents f = files f.rows.items f.text.items
+contents f = files (rows f.heads.items) f.text.items
 
 -- files and draft have room together, and nothing is kept of a draft that ended
 pub record IsStored (folder : Folder) (writing : Bool) (name bytes : TrayState) : Type 0 where

@@ -1,45 +1,50 @@
-//! Files in memory, in room that is taken at once: names and bytes stand behind one another in one text, and a row for each file has the two lengths.
-ghost use Rattle.std.specs.Prelude.{◌≡◌, ◌≢◌, ◌++◌, ◌+◌, ◌-◌, ◌≤◌, ◌<◌, ◌∷◌, ℕ, List, [], length, take, drop, IfOk, IsTrue, MatchOption, Some, None, Option, option_map, vec_len, vec_capacity};
+//! Files in memory, in room that is taken at once: names and bytes stand behind one another in one text, and heads tell the two lengths of each file.
+
+ghost use Rattle.std.specs.Prelude.{◌≡◌, ◌≢◌, ◌++◌, ◌+◌, ◌-◌, ◌*◌, ◌/◌, ◌^◌, ◌≤◌, ◌<◌, ◌∷◌, ℕ, List, [], length, take, drop, IfOk, IsTrue, MatchOption, Some, None, Option, option_map, vec_len, vec_capacity};
 ghost use Rattle.outside.specs.Files.{lookup, without, replaced, are_apart, total};
-ghost use Rattle.outside.specs.Rows.{sizes, files, IsPlace};
+ghost use Rattle.outside.specs.Rows.{sizes, files, rows, IsClosed, IsPlace};
 
 use crate::NoMemory;
+use crate::heads::{Head, Row, next_row, push_row};
 use std::alloc::Global;
 
-#[derive(Clone, Copy, Drop)]
-pub(crate) struct Row {
-    name: usize,
-    bytes: usize,
-}
+/// More bytes than a machine has. Below it the heads can be counted.
+const TOO_MUCH: u64 = 1 << 50;
 
 #[derive(Drop)]
 pub(crate) struct Folder {
-    rows: Vec<Row>,
+    heads: Vec<Head>,
     text: Vec<u8>,
     room: usize,
-    ghost sized: { sizes rows.items ≡ length text.items },
-    ghost apart: { IsTrue (are_apart (files rows.items text.items)) },
+    ghost sized: { sizes (rows heads.items) ≡ length text.items },
+    ghost apart: { IsTrue (are_apart (files (rows heads.items) text.items)) },
+    ghost closed: { IsClosed heads.items },
     ghost within: { length text.items ≤ room },
+    ghost countable: { room < 2 ^ 50 },
     ghost text_reserved: { room ≤ vec_capacity text },
-    ghost rows_reserved: { room < vec_capacity rows },
+    ghost heads_reserved: { room + room / 255 + 2 ≤ vec_capacity heads },
+    ghost few: { length heads.items ≤ room + room / 255 + 2 },
 }
 
+/// Where a file stands: its heads, its first byte, and its row.
 #[derive(Clone, Copy, Drop)]
 struct Place {
-    index: usize,
+    from: usize,
+    to: usize,
     at: usize,
     row: Row,
 }
 
-/// Takes `size` bytes out of a text.
-fn cut(text: &mut Vec<u8>, at: usize, size: usize)
-    requires { at + size ≤ length text.old.items }
-    ensures items { text.new.items ≡ take at text.old.items ++ drop (at + size) text.old.items }
-    ensures capacity { vec_capacity text.new ≡ vec_capacity text.old }
+/// Takes what stands between two places out.
+fn cut<T: Copy>(items: &mut Vec<T>, from: usize, to: usize)
+    requires order { from ≤ to }
+    requires within { to ≤ length items.old.items }
+    ensures items { items.new.items ≡ take from items.old.items ++ drop to items.old.items }
+    ensures capacity { vec_capacity items.new ≡ vec_capacity items.old }
 {
-    let left = text.len() - size;
-    text.copy_within(at + size.., at);
-    text.truncate(left);
+    let left = items.len() - (to - from);
+    items.copy_within(to.., from);
+    items.truncate(left);
 }
 
 /// Puts bytes behind a text that has the room.
@@ -51,44 +56,52 @@ fn put(text: &mut Vec<u8>, bytes: &[u8])
     let _ = text.extend_from_slice(bytes);
 }
 
-/// The row of this name, and where its file begins.
-fn find(rows: &[Row], text: &[u8], name: &[u8]) -> Option<Place>
-    requires { sizes rows.now ≡ length text.now }
-    ensures { MatchOption result (lookup name.now (files rows.now text.now) ≡ None) (λ p. IsPlace name.now rows.now text.now p.index p.at p.row) }
+/// Where the file of this name stands.
+fn find(heads: &[Head], text: &[u8], name: &[u8]) -> Option<Place>
+    requires sized { sizes (rows heads.now) ≡ length text.now }
+    requires few { 255 * length heads.now < 2 ^ 64 }
+    ensures { MatchOption result (lookup name.now (files (rows heads.now) text.now) ≡ None) (λ p. IsPlace name.now heads.now text.now p.from p.to p.at p.row) }
 {
+    let mut from = 0usize;
     let mut at = 0usize;
-    for (index, row) in rows.iter().enumerate() {
-        let row = *row;
-        let end = at + row.name;
+    while let Some(next) = next_row(heads, from) {
+        let end = at + next.row.name;
         if &text[at..end] == name {
-            return Some(Place { index, at, row });
+            return Some(Place {
+                from,
+                to: next.to,
+                at,
+                row: next.row,
+            });
         }
-        at = end + row.bytes;
+        at = end + next.row.bytes;
+        from = next.to;
     }
     None
 }
 
 impl Folder {
     pub(crate) fn start(alloc: Global, room: u64) -> Result<Folder, NoMemory>
-        ensures files { IfOk result (λ f. files f.rows.items f.text.items ≡ []) }
+        ensures files { IfOk result (λ f. files (rows f.heads.items) f.text.items ≡ []) }
         ensures room { IfOk result (λ f. f.room ≡ room) }
     {
-        let room = room as usize;
-        let Some(most) = room.checked_add(1) else {
+        if room >= TOO_MUCH {
             return Err(NoMemory);
-        };
+        }
+        let room = room as usize;
         let Ok(text) = Vec::with_capacity(alloc, room) else {
             return Err(NoMemory);
         };
-        match Vec::with_capacity(alloc, most) {
-            Ok(rows) => Ok(Folder { rows, text, room }),
+        // A head for each file, of which one alone may have no byte, and one for each 255 bytes.
+        match Vec::with_capacity(alloc, room + room / 255 + 2) {
+            Ok(heads) => Ok(Folder { heads, text, room }),
             Err(_) => Err(NoMemory),
         }
     }
 
     /// The bytes of the names and of what they hold.
     pub(crate) fn len(&self) -> usize
-        ensures total { result ≡ total (files self.now.rows.items self.now.text.items) }
+        ensures total { result ≡ total (files (rows self.now.heads.items) self.now.text.items) }
         ensures within { result ≤ self.now.room }
     {
         self.text.len()
@@ -102,9 +115,9 @@ impl Folder {
 
     /// What the file of this name holds.
     pub(crate) fn get(&self, name: &[u8]) -> Option<&[u8]>
-        ensures { option_map (λ r. r.now) result ≡ lookup name.now (files self.now.rows.items self.now.text.items) }
+        ensures { option_map (λ r. r.now) result ≡ lookup name.now (files (rows self.now.heads.items) self.now.text.items) }
     {
-        match find(self.rows.as_slice(), self.text.as_slice(), name) {
+        match find(self.heads.as_slice(), self.text.as_slice(), name) {
             Some(place) => {
                 let from = place.at + place.row.name;
                 Some(&self.text.as_slice()[from..from + place.row.bytes])
@@ -115,9 +128,9 @@ impl Folder {
 
     /// The bytes of this name and of what it holds, 0 where there is no such file.
     pub(crate) fn size(&self, name: &[u8]) -> usize
-        ensures { total (without name.now (files self.now.rows.items self.now.text.items)) + result ≡ total (files self.now.rows.items self.now.text.items) }
+        ensures { total (without name.now (files (rows self.now.heads.items) self.now.text.items)) + result ≡ total (files (rows self.now.heads.items) self.now.text.items) }
     {
-        match find(self.rows.as_slice(), self.text.as_slice(), name) {
+        match find(self.heads.as_slice(), self.text.as_slice(), name) {
             Some(place) => place.row.name + place.row.bytes,
             None => 0,
         }
@@ -125,25 +138,26 @@ impl Folder {
 
     /// Takes the file of this name away.
     pub(crate) fn remove(&mut self, name: &[u8])
-        ensures files { files self.new.rows.items self.new.text.items ≡ without name.now (files self.old.rows.items self.old.text.items) }
-        ensures gone { lookup name.now (files self.new.rows.items self.new.text.items) ≡ None }
-        ensures others { (n : List ℕ) → n ≢ name.now → lookup n (files self.new.rows.items self.new.text.items) ≡ lookup n (files self.old.rows.items self.old.text.items) }
-        ensures total { total (files self.new.rows.items self.new.text.items) ≤ total (files self.old.rows.items self.old.text.items) }
+        ensures files { files (rows self.new.heads.items) self.new.text.items ≡ without name.now (files (rows self.old.heads.items) self.old.text.items) }
+        ensures gone { lookup name.now (files (rows self.new.heads.items) self.new.text.items) ≡ None }
+        ensures others { (n : List ℕ) → n ≢ name.now → lookup n (files (rows self.new.heads.items) self.new.text.items) ≡ lookup n (files (rows self.old.heads.items) self.old.text.items) }
+        ensures total { total (files (rows self.new.heads.items) self.new.text.items) ≤ total (files (rows self.old.heads.items) self.old.text.items) }
         ensures room { self.new.room ≡ self.old.room }
     {
-        if let Some(place) = find(self.rows.as_slice(), self.text.as_slice(), name) {
-            cut(&mut self.text, place.at, place.row.name + place.row.bytes);
-            self.rows.remove(place.index);
+        if let Some(place) = find(self.heads.as_slice(), self.text.as_slice(), name) {
+            let end = place.at + (place.row.name + place.row.bytes);
+            cut(&mut self.text, place.at, end);
+            cut(&mut self.heads, place.from, place.to);
         }
     }
 
     /// Puts a file in the place of the one of this name.
     pub(crate) fn replace(&mut self, name: &[u8], bytes: &[u8])
-        requires { total (without name.now (files self.old.rows.items self.old.text.items)) + (length name.now + length bytes.now) ≤ self.old.room }
-        ensures files { files self.new.rows.items self.new.text.items ≡ replaced name.now bytes.now (files self.old.rows.items self.old.text.items) }
-        ensures held { lookup name.now (files self.new.rows.items self.new.text.items) ≡ Some bytes.now }
-        ensures others { (n : List ℕ) → n ≢ name.now → lookup n (files self.new.rows.items self.new.text.items) ≡ lookup n (files self.old.rows.items self.old.text.items) }
-        ensures total { total (files self.new.rows.items self.new.text.items) ≡ total (without name.now (files self.old.rows.items self.old.text.items)) + (length name.now + length bytes.now) }
+        requires { total (without name.now (files (rows self.old.heads.items) self.old.text.items)) + (length name.now + length bytes.now) ≤ self.old.room }
+        ensures files { files (rows self.new.heads.items) self.new.text.items ≡ replaced name.now bytes.now (files (rows self.old.heads.items) self.old.text.items) }
+        ensures held { lookup name.now (files (rows self.new.heads.items) self.new.text.items) ≡ Some bytes.now }
+        ensures others { (n : List ℕ) → n ≢ name.now → lookup n (files (rows self.new.heads.items) self.new.text.items) ≡ lookup n (files (rows self.old.heads.items) self.old.text.items) }
+        ensures total { total (files (rows self.new.heads.items) self.new.text.items) ≡ total (without name.now (files (rows self.old.heads.items) self.old.text.items)) + (length name.now + length bytes.now) }
         ensures room { self.new.room ≡ self.old.room }
     {
         self.remove(name);
@@ -152,19 +166,19 @@ impl Folder {
 
     /// Puts a file behind the others.
     fn add(&mut self, name: &[u8], bytes: &[u8])
-        requires absent { lookup name.now (files self.old.rows.items self.old.text.items) ≡ None }
-        requires room { total (files self.old.rows.items self.old.text.items) + (length name.now + length bytes.now) ≤ self.old.room }
-        ensures files { files self.new.rows.items self.new.text.items ≡ files self.old.rows.items self.old.text.items ++ (name.now, bytes.now) ∷ [] }
-        ensures held { lookup name.now (files self.new.rows.items self.new.text.items) ≡ Some bytes.now }
-        ensures others { (n : List ℕ) → n ≢ name.now → lookup n (files self.new.rows.items self.new.text.items) ≡ lookup n (files self.old.rows.items self.old.text.items) }
-        ensures total { total (files self.new.rows.items self.new.text.items) ≡ total (files self.old.rows.items self.old.text.items) + (length name.now + length bytes.now) }
+        requires absent { lookup name.now (files (rows self.old.heads.items) self.old.text.items) ≡ None }
+        requires room { total (files (rows self.old.heads.items) self.old.text.items) + (length name.now + length bytes.now) ≤ self.old.room }
+        ensures files { files (rows self.new.heads.items) self.new.text.items ≡ files (rows self.old.heads.items) self.old.text.items ++ (name.now, bytes.now) ∷ [] }
+        ensures held { lookup name.now (files (rows self.new.heads.items) self.new.text.items) ≡ Some bytes.now }
+        ensures others { (n : List ℕ) → n ≢ name.now → lookup n (files (rows self.new.heads.items) self.new.text.items) ≡ lookup n (files (rows self.old.heads.items) self.old.text.items) }
+        ensures total { total (files (rows self.new.heads.items) self.new.text.items) ≡ total (files (rows self.old.heads.items) self.old.text.items) + (length name.now + length bytes.now) }
         ensures room { self.new.room ≡ self.old.room }
     {
         let row = Row {
             name: name.len(),
             bytes: bytes.len(),
         };
-        self.rows.push_reserved(row);
+        push_row(&mut self.heads, row);
         put(&mut self.text, name);
         put(&mut self.text, bytes);
     }

@@ -7,6 +7,7 @@ mod console;
 mod file_shelf;
 mod folder;
 mod gate;
+mod heads;
 mod mem_shelf;
 mod real;
 mod shelf;

@@ -1,10 +1,9 @@
-use Rattle.std.proofs.Common.{◌≡◌, take, drop}
-use Rattle.outside.specs.Rows.{sizes, files}
-use Rattle.outside.specs.Files.{lookup}
+use Rattle.std.proofs.Common.{◌-◌, length}
+use Rattle.outside.proofs.Texts.{IsSought}
 use Rattle.outside.proofs.folder.find.Given as goal
 
-abbrev pub invariant-loop-index : goal.invariant-loop-index
-invariant-loop-index l = record {
-  before : l.at ≡ sizes (take l.index l.rows);
-  rest : lookup l.name (files (drop l.index l.rows) (drop l.at l.text)) ≡ lookup l.name (files l.rows l.text);
-}
+abbrev pub invariant-loop-next : goal.invariant-loop-next
+invariant-loop-next l = IsSought l.name l.heads l.text l.from l.at
+
+abbrev pub decreases-loop-next : goal.decreases-loop-next
+decreases-loop-next l = length l.heads - l.from
