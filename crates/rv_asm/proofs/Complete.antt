@@ -24,7 +24,7 @@ use Rattle.rv_decode.specs.declared.CsrOp.TheVariants as csr_op
 use Rattle.rv_decode.specs.declared.AmoOp.{AmoOp}
 use Rattle.rv_decode.specs.declared.AmoOp.TheVariants as amo_op
 use Rattle.rv_asm.specs.Names.{upper_name, branch_name, load_name, store_name, imm_name, shift_name, reg_name, csr_name, amo_name, order_suffix}
-use Rattle.rv_asm.specs.Keys.{upper_key, branch_key, load_key, store_key, imm_key, shift_key, reg_key, csr_key, amo_key}
+use Rattle.rv_asm.proofs.NameKeys.{upper_key, branch_key, load_key, store_key, imm_key, shift_key, reg_key, csr_key, amo_key}
 use Rattle.rv_asm.specs.Text.{hex_3, hex_8, with_hex, with_number, with_two_and_number, with_three, with_place, with_csr, with_address, with_two_and_address, with_word, csr_before}
 use Rattle.rv_asm.specs.Scan.{line_text, LineFits}
 use Rattle.rv_asm.specs.declared.scan.Line.{Line}

@@ -1,4 +1,6 @@
--- The lines that the assembler takes, and the words of a text.
+-- The grammar of the assembler. A text is lines, each ended by a newline, that are the text of an instruction whose
+-- fields are in range, or `.word 0x` and 8 lower-case digits. The empty text has no lines and no words; a last line
+-- without its newline is not in the grammar.
 use Rattle.std.specs.Prelude.{ℕ, ◌≡◌, ◌<◌, ◌^◌, ◌==◌, ◌⊎◌, false, List, [], ◌∷◌, ◌++◌, length, codes, Some}
 use Rattle.rv_decode.specs.declared.Instr.{Instr}
 use Rattle.rv_decode.specs.Fits.{Fits}

@@ -1,5 +1,5 @@
--- A name as one number, its bytes in base 256, and the operation that it stands for. Private functions alone promise
--- this; the grammar has no keys.
+-- The operation that a name stands for, the name being one number: its bytes in base 256. Private functions alone
+-- promise this; the grammar has no such numbers.
 use Rattle.std.specs.Prelude.{ℕ, ◌==◌, if◌then◌else◌, Option, Some, None}
 use Rattle.rv_decode.specs.declared.UpperOp.{UpperOp}
 use Rattle.rv_decode.specs.declared.UpperOp.TheVariants as upper_op
@@ -20,23 +20,11 @@ use Rattle.rv_decode.specs.declared.CsrOp.TheVariants as csr_op
 use Rattle.rv_decode.specs.declared.AmoOp.{AmoOp}
 use Rattle.rv_decode.specs.declared.AmoOp.TheVariants as amo_op
 
-abbrev pub upper_key : UpperOp → ℕ
-upper_key upper_op.Lui = 0x6c7569
-upper_key upper_op.Auipc = 0x6175697063
-
 abbrev pub upper_named : ℕ → Option UpperOp
 upper_named key =
     if key == 0x6c7569 then Some upper_op.Lui
     else if key == 0x6175697063 then Some upper_op.Auipc
     else None
-
-abbrev pub branch_key : BranchOp → ℕ
-branch_key branch_op.Beq = 0x626571
-branch_key branch_op.Bne = 0x626e65
-branch_key branch_op.Blt = 0x626c74
-branch_key branch_op.Bge = 0x626765
-branch_key branch_op.Bltu = 0x626c7475
-branch_key branch_op.Bgeu = 0x62676575
 
 abbrev pub branch_named : ℕ → Option BranchOp
 branch_named key =
@@ -48,13 +36,6 @@ branch_named key =
     else if key == 0x62676575 then Some branch_op.Bgeu
     else None
 
-abbrev pub load_key : LoadOp → ℕ
-load_key load_op.Lb = 0x6c62
-load_key load_op.Lh = 0x6c68
-load_key load_op.Lw = 0x6c77
-load_key load_op.Lbu = 0x6c6275
-load_key load_op.Lhu = 0x6c6875
-
 abbrev pub load_named : ℕ → Option LoadOp
 load_named key =
     if key == 0x6c62 then Some load_op.Lb
@@ -64,25 +45,12 @@ load_named key =
     else if key == 0x6c6875 then Some load_op.Lhu
     else None
 
-abbrev pub store_key : StoreOp → ℕ
-store_key store_op.Sb = 0x7362
-store_key store_op.Sh = 0x7368
-store_key store_op.Sw = 0x7377
-
 abbrev pub store_named : ℕ → Option StoreOp
 store_named key =
     if key == 0x7362 then Some store_op.Sb
     else if key == 0x7368 then Some store_op.Sh
     else if key == 0x7377 then Some store_op.Sw
     else None
-
-abbrev pub imm_key : ImmOp → ℕ
-imm_key imm_op.Addi = 0x61646469
-imm_key imm_op.Slti = 0x736c7469
-imm_key imm_op.Sltiu = 0x736c746975
-imm_key imm_op.Xori = 0x786f7269
-imm_key imm_op.Ori = 0x6f7269
-imm_key imm_op.Andi = 0x616e6469
 
 abbrev pub imm_named : ℕ → Option ImmOp
 imm_named key =
@@ -94,37 +62,12 @@ imm_named key =
     else if key == 0x616e6469 then Some imm_op.Andi
     else None
 
-abbrev pub shift_key : ShiftOp → ℕ
-shift_key shift_op.Slli = 0x736c6c69
-shift_key shift_op.Srli = 0x73726c69
-shift_key shift_op.Srai = 0x73726169
-
 abbrev pub shift_named : ℕ → Option ShiftOp
 shift_named key =
     if key == 0x736c6c69 then Some shift_op.Slli
     else if key == 0x73726c69 then Some shift_op.Srli
     else if key == 0x73726169 then Some shift_op.Srai
     else None
-
-abbrev pub reg_key : RegOp → ℕ
-reg_key reg_op.Add = 0x616464
-reg_key reg_op.Sub = 0x737562
-reg_key reg_op.Sll = 0x736c6c
-reg_key reg_op.Slt = 0x736c74
-reg_key reg_op.Sltu = 0x736c7475
-reg_key reg_op.Xor = 0x786f72
-reg_key reg_op.Srl = 0x73726c
-reg_key reg_op.Sra = 0x737261
-reg_key reg_op.Or = 0x6f72
-reg_key reg_op.And = 0x616e64
-reg_key reg_op.Mul = 0x6d756c
-reg_key reg_op.Mulh = 0x6d756c68
-reg_key reg_op.Mulhsu = 0x6d756c687375
-reg_key reg_op.Mulhu = 0x6d756c6875
-reg_key reg_op.Div = 0x646976
-reg_key reg_op.Divu = 0x64697675
-reg_key reg_op.Rem = 0x72656d
-reg_key reg_op.Remu = 0x72656d75
 
 abbrev pub reg_named : ℕ → Option RegOp
 reg_named key =
@@ -148,14 +91,6 @@ reg_named key =
     else if key == 0x72656d75 then Some reg_op.Remu
     else None
 
-abbrev pub csr_key : CsrOp → ℕ
-csr_key csr_op.Csrrw = 0x6373727277
-csr_key csr_op.Csrrs = 0x6373727273
-csr_key csr_op.Csrrc = 0x6373727263
-csr_key csr_op.Csrrwi = 0x637372727769
-csr_key csr_op.Csrrsi = 0x637372727369
-csr_key csr_op.Csrrci = 0x637372726369
-
 abbrev pub csr_named : ℕ → Option CsrOp
 csr_named key =
     if key == 0x6373727277 then Some csr_op.Csrrw
@@ -165,17 +100,6 @@ csr_named key =
     else if key == 0x637372727369 then Some csr_op.Csrrsi
     else if key == 0x637372726369 then Some csr_op.Csrrci
     else None
-
-abbrev pub amo_key : AmoOp → ℕ
-amo_key amo_op.Swap = 0x616d6f73776170
-amo_key amo_op.Add = 0x616d6f616464
-amo_key amo_op.Xor = 0x616d6f786f72
-amo_key amo_op.And = 0x616d6f616e64
-amo_key amo_op.Or = 0x616d6f6f72
-amo_key amo_op.Min = 0x616d6f6d696e
-amo_key amo_op.Max = 0x616d6f6d6178
-amo_key amo_op.Minu = 0x616d6f6d696e75
-amo_key amo_op.Maxu = 0x616d6f6d617875
 
 abbrev pub amo_named : ℕ → Option AmoOp
 amo_named key =

@@ -1,4 +1,5 @@
--- The text of an instruction: its name, a blank and its operands.
+-- The text of an instruction: its name, a blank and its operands. It is meant of instructions that fit: CSR numbers
+-- have 12 bits and orders 2.
 use Rattle.std.specs.Prelude.{ℕ, ℤ, pos, ◌/◌, ◌%◌, ◌^◌, List, [], ◌∷◌, ◌++◌, codes, false}
 use Rattle.std.specs.Fmt.{decimal, signed_decimal, digits, digit_glyph}
 use Rattle.rv_decode.specs.declared.Instr.{Instr}
