@@ -1,0 +1,5 @@
+pub mod Acting
+pub mod Kept
+pub mod Rows
+pub mod Sizes
+pub mod Starting

@@ -1,0 +1,5 @@
+pub mod State
+pub mod Moves
+pub mod Acts
+pub mod Runs
+pub mod HartMoves
