@@ -1,12 +1,11 @@
 -- The state after a call that made a hart's move, or could not.
-use Rattle.std.proofs.Common.{◌≡◌, ℕ, ◌+◌, ◌*◌, ◌<◌, ◌≤◌, List, [], ◌∷◌, set, get_or, length, map, refl, ap, sym, ◌∙◌, arith, subst, true, false, Bool, zero, suc, All, cond}
-use Rattle.std.specs.Prelude.{Option, Some, None, IsSome, IfSome, IsTrue, slice_get, slice_set, slice_index_or, slice_index, is_some, unwrap_or}
+use Rattle.std.proofs.Common.{◌≡◌, ℕ, ◌+◌, ◌<◌, ◌≤◌, List, set, length, map, refl, ap, sym, ◌∙◌, subst, true, false, Bool, cond}
+use Rattle.std.specs.Prelude.{Option, Some, None, IfSome, IsTrue, slice_get, slice_set, slice_index_or, slice_index, is_some}
 use Rattle.std.proofs.lemmas.List.Elements.{All-map, All-set}
 use Rattle.std.proofs.lemmas.List.{length-map, length-set}
 use Rattle.std.proofs.lemmas.Option.{slice_get_past}
 use Rattle.rv_hart.specs.State.{Hart}
-use Rattle.rv_hart.specs.Moves.{after, written, need_of, with_reserved}
-use Rattle.rv_hart.specs.declared.effect.Effect.{Effect}
+use Rattle.rv_hart.specs.Moves.{after, need_of, with_reserved}
 use Rattle.rv_hart.specs.declared.effect.Wrote.{Wrote}
 use Rattle.rv_hart.specs.declared.effect.Wrote.TheVariants as wrote
 use Rattle.rv_words.specs.Addresses.{device_word}
@@ -20,8 +19,8 @@ use Rattle.std.specs.Option.{option_map}
 use Rattle.flat_machine.specs.State.{FlatState, Machine, OnBoard, FitsTogether}
 use Rattle.flat_machine.specs.Moves.{next_move, loaded_for, access_of, stored_by, lost_by, writes_in}
 use Rattle.flat_machine.specs.HartMoves.{HartMoved, FindsAccess}
-use Rattle.flat_machine.specs.Acts.{next, moved, ran, moved_by, lost, accessed, with_lines_of, NextHasRoom, SendsWithRoom}
-use Rattle.flat_machine.specs.declared.act.Act.TheVariants.{Run, Touch, Poll, Lose}
+use Rattle.flat_machine.specs.Acts.{next, moved, moved_by, lost, accessed, with_lines_of, NextHasRoom, SendsWithRoom}
+use Rattle.flat_machine.specs.declared.act.Act.TheVariants.{Run, Touch, Lose}
 
 -- no such hart
 pub run_nobody : (s : FlatState) (h : ℕ) → length s.harts ≤ h → next (Run h) s ≡ None

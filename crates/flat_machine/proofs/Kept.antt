@@ -1,5 +1,5 @@
 -- An access leaves the number of harts of the devices.
-use Rattle.std.proofs.Common.{◌≡◌, ℕ, refl, sym, ◌∙◌, ap, true, false, Bool, cond}
+use Rattle.std.proofs.Common.{◌≡◌, ℕ, refl, ◌∙◌, ap, true, false, Bool, cond}
 use Rattle.std.specs.Prelude.{Option, Some, None, nat_le}
 use Rattle.std.specs.Option.{option_and_then}
 use Rattle.rv_words.specs.Words.{low_half, high_half}

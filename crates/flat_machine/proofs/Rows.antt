@@ -3,7 +3,7 @@ use Rattle.std.specs.Prelude.{ℕ, ◌≡◌, ◌*◌, ◌-◌, List, [], ◌∷
 use Rattle.std.specs.Int.{w32, to_le_bytes}
 use Rattle.std.specs.Option.{option_map, option_and_then}
 use Rattle.rv_words.specs.Memory.{word_at}
-use Rattle.rv_words.specs.declared.shared.Input.TheVariants.{Nothing, Empty, Byte, Time}
+use Rattle.rv_words.specs.declared.shared.Input.TheVariants.{Nothing, Empty, Byte}
 use Rattle.rv_csr.specs.Registers.{mstatus, mip}
 use Rattle.rv_decode.specs.Table.{meaning, table}
 use Rattle.rv_hart.specs.State.{Hart}
@@ -59,7 +59,7 @@ unfolding meaning table instr_effect
 smallest_run = (refl, refl)
 
 -- what each of its moves wrote, and the word that it fetched
-pub smallest_story : map (λ (step : Step). (step.word, step.wrote)) (story 0 (flat_at_start (image_of 1 smallest) 1) smallest_acts)
+pub smallest_story : map {B = Option ℕ × Option (ℕ × ℕ)} (λ (step : Step). (step.word, step.wrote)) (story 0 (flat_at_start (image_of 1 smallest) 1) smallest_acts)
     ≡ (Some 0x100000B7, Some (1, 0x10000000)) ∷ (Some 0x00700113, Some (2, 7)) ∷ (Some 0x0020A423, None) ∷ []
 unfolding meaning table instr_effect
 smallest_story = refl

@@ -1,7 +1,6 @@
 -- The acts of the flat machine: the state after each, and none where its condition fails.
 use Rattle.std.specs.Prelude.{ℕ, ◌+◌, ◌<◌, ◌^◌, ◌||◌, nat_lt, if◌then◌else◌, List, map, Option, Some, None, IfSome, is_some, slice_get, slice_set, slice_index}
 use Rattle.std.specs.Option.{option_map, option_and_then}
-use Rattle.rv_words.specs.declared.shared.Access.{Access}
 use Rattle.rv_words.specs.declared.shared.Input.{Input}
 use Rattle.rv_csr.specs.Traps.{with_lines}
 use Rattle.rv_hart.specs.State.{Hart}

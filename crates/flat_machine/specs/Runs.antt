@@ -1,6 +1,6 @@
 -- Runs of the flat machine, what they end with, and the story of a hart.
 use Rattle.std.specs.Prelude.{ℕ, ◌==◌, nat_eq, if◌then◌else◌, List, [], ◌∷◌, ◌++◌, Option, Some, None, slice_get}
-use Rattle.std.specs.Option.{option_map, option_and_then, option_map_or, option_eq}
+use Rattle.std.specs.Option.{option_and_then, option_map_or, option_eq}
 use Rattle.rv_words.specs.declared.shared.Cause.{Cause}
 use Rattle.rv_hart.specs.State.{Hart}
 use Rattle.rv_hart.specs.Effects.{reg}

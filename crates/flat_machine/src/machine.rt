@@ -199,12 +199,7 @@ impl Flat {
     }
 }
 
-fn harts_at_start(
-    alloc: Global,
-    harts: u8,
-    pages: u16,
-    entry: u32,
-) -> Result<Vec<Hart>, AllocError>
+fn harts_at_start(alloc: Global, harts: u8, pages: u16, entry: u32) -> Result<Vec<Hart>, AllocError>
     requires { entry % 4 ≡ 0 }
     ensures { IfOk result (λ v. v.items ≡ map (λ id. hart_at_start id harts pages entry) (range_with_len 0 harts)) }
 {

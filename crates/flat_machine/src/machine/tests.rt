@@ -88,7 +88,10 @@ fn a_run_ends_with_what_its_acts_made(rt: HostRuntime) {
         assert_eq!(rt; bench.make(&rt, act), made, "at {act:?}");
     }
     let end = bench.flat.end(Cause::Stop);
-    assert_eq!(rt; (end.cause, end.stop, end.time), (Cause::Stop, Some(0x41), 5));
+    assert_eq!(rt;
+        (end.cause, end.stop, end.time),
+        (Cause::Stop, Some(0x41), 5)
+    );
     assert_eq!(rt; end.sent.items(), [0x41u8].as_slice());
     assert_eq!(rt; end.counts.items(), [4u64, 1].as_slice());
     assert_eq!(rt; end.memory.items().len(), 8192);

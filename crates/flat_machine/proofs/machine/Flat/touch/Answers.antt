@@ -1,4 +1,4 @@
-use Rattle.std.proofs.Common.{rules, ◌≡◌, ◌∙◌, sym, ap, refl, arith, subst, ℕ, ◌<◌, List, set, length, false}
+use Rattle.std.proofs.Common.{rules, ◌≡◌, ◌∙◌, sym, ap, refl, arith, subst, ◌<◌, length, false}
 use Rattle.std.specs.Prelude.{Some, None, slice_get, slice_index, is_some, unwrap_or}
 use Rattle.std.proofs.lemmas.Option.{slice_get_read}
 use Rattle.std.proofs.lemmas.Grind.{get_or_default_zero}
@@ -6,7 +6,7 @@ use Rattle.rv_csr.specs.Traps.{with_lines}
 use Rattle.rv_hart.specs.State.{Hart}
 use Rattle.rv_hart.specs.Effects.{effect_of}
 use Rattle.rv_hart.specs.Moves.{after}
-use Rattle.flat_machine.specs.State.{FlatState, Machine, OnBoard, FitsTogether}
+use Rattle.flat_machine.specs.State.{Machine, OnBoard, FitsTogether}
 use Rattle.flat_machine.specs.Acts.{next, with_lines_of}
 use Rattle.flat_machine.specs.declared.act.Act.TheVariants.{Touch}
 use Rattle.flat_machine.proofs.Acting.{touched_fits, touch_state, touch_state_kept, touch_no_access, access_has_room}
