@@ -1,0 +1,6 @@
+pub mod Places
+pub mod Cursor
+pub mod Rules
+pub mod Orderly
+pub mod Worked
+pub mod Laws

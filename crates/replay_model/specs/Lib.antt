@@ -1,0 +1,10 @@
+pub mod Flat
+pub mod Board
+pub mod Holders
+pub mod State
+pub mod Items
+pub mod Outcome
+pub mod Journal
+pub mod Inputs
+pub mod Worked
+pub mod Laws

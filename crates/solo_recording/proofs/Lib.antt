@@ -1,0 +1,9 @@
+pub mod Prefix
+pub mod Fits
+pub mod Tidy
+pub mod Kept
+pub mod Rules
+pub mod Obeying
+pub mod Taking
+pub mod Solo
+pub mod BoardClock

@@ -1,0 +1,80 @@
+-- What one hart records: items made one after another, and the entries that they leave in its stream (docs/recorder.md).
+use Rattle.std.specs.Prelude.{ℕ, ◌≡◌, ◌≢◌, ◌+◌, ◌%◌, ◌<◌, ◌≤◌, true, List, [], ◌∷◌, ◌++◌, slice_get, Some, length, replicate}
+use Rattle.rv_words.specs.declared.shared.Cause.{Cause}
+use Rattle.log_entry.specs.declared.log.Entry.{Entry}
+use Rattle.log_entry.specs.declared.log.Entry.TheVariants as entries
+use Rattle.log_entry.specs.declared.log.Log.{Log}
+use Rattle.log_entry.specs.Parts.{count_of, strength}
+use Rattle.order_rules.specs.Rules.{has_poll}
+use Rattle.rv_words.specs.declared.shared.Input.{Input}
+use Rattle.rv_words.specs.declared.shared.Input.TheVariants.{Time}
+use Rattle.replay_model.specs.Flat.{Flat}
+use Rattle.flat_machine.specs.declared.act.Act.{Act}
+use Rattle.flat_machine.specs.declared.act.Act.TheVariants.{Run, Touch, Poll}
+use Rattle.replay_model.specs.Holders.{held, nobody}
+use Rattle.replay_model.specs.State.{Replay}
+use Rattle.replay_model.specs.Items.{Item, Ended, Move, Makes, CanGo, verdict_on, made}
+
+-- a state of the run, and the hart's entries so far
+pub record Recording (S : Type 0) : Type 0 where
+  pub at : Replay S
+  pub stream : List Entry
+
+-- the stream once an item was made
+abbrev pub with_item : Item → List Entry → List Entry
+with_item (Makes e) stream = stream ++ e ∷ []
+with_item _ stream = stream
+
+-- where a Poll is due at a count, the stream has it
+abbrev pub IsPolled : List Entry → ℕ → Type 0
+IsPolled stream count = count % 4096 ≡ 0 → has_poll stream count ≡ true
+
+-- no entry stands at that count
+abbrev pub NoneAt : List Entry → ℕ → Type 0
+NoneAt stream count = (j : ℕ) (e : Entry) → slice_get stream j ≡ Some e → count_of e ≢ count
+
+-- how counts and time go on in a flat machine, at good states, which stay among themselves
+pub record IsClocked {S V : Type 0} (flat : Flat S V) (Good : S → Type 0) : Type 0 where
+  pub lasts : (s t : S) (act : Act) → Good s → flat.next s act ≡ Some t → Good t
+  pub run_count : (s t : S) → Good s → flat.next s (Run 0) ≡ Some t → flat.count t 0 ≡ flat.count s 0 + 1
+  pub run_time : (s t : S) → Good s → flat.next s (Run 0) ≡ Some t → flat.time s ≤ flat.time t
+  pub touch_count : (s t : S) (input : Input) → Good s → flat.next s (Touch 0 input) ≡ Some t → flat.count t 0 ≡ flat.count s 0 + 1
+  pub touch_later : (s t : S) (input : Input) → Good s → flat.next s (Touch 0 input) ≡ Some t → flat.time s ≤ flat.time t
+  pub touch_time : (s t : S) (time : ℕ) → Good s → flat.next s (Touch 0 (Time time)) ≡ Some t → (flat.time s ≤ time) × (flat.time t ≡ time)
+  pub poll_count : (s t : S) (time : ℕ) → Good s → flat.next s (Poll 0 time) ≡ Some t → flat.count t 0 ≡ flat.count s 0
+  pub poll_time : (s t : S) (time : ℕ) → Good s → flat.next s (Poll 0 time) ≡ Some t → (flat.time s ≤ time) × (flat.time t ≡ time)
+
+module _ {S V : Type 0} (flat : Flat S V) (limit : ℕ) where
+  abbrev pub now : Recording S → ℕ
+  now r = flat.count r.at.flat 0
+
+  -- a move below the limit, its Poll made; a Poll at its due count before any other entry there; a Gain of more than was held, with no waits
+  abbrev pub Allowed : Recording S → Item → Type 0
+  Allowed r Ended = ⊥
+  Allowed r Move = (now r < limit) × IsPolled r.stream (now r)
+  Allowed r (Makes (entries.Gain count page seq mode waits)) = (count ≡ now r) × (waits.items ≡ []) × (strength (held r.at.holders page 0) < strength (Some mode)) × (page < length r.at.holders)
+  Allowed r (Makes (entries.Yield count page seq left)) = ⊥
+  Allowed r (Makes (entries.Poll count ord time bits)) = (count ≡ now r) × (count < limit) × (count % 4096 ≡ 0) × NoneAt r.stream count
+  Allowed r (Makes (entries.Touch count ord input)) = (count ≡ now r) × (count < limit) × IsPolled r.stream count
+  Allowed r (Makes (entries.End count)) = ⊥
+
+  pub record IsRecorded (r : Recording S) (item : Item) (s : Recording S) : Type 0 where
+    pub allowed : Allowed r item
+    pub goes : verdict_on flat r.at 0 item ≡ CanGo
+    pub made : made flat r.at 0 item ≡ Some s.at
+    pub stream : s.stream ≡ with_item item r.stream
+
+  -- these items, one after another
+  abbrev pub Records : Recording S → List Item → Recording S → Type 0
+  Records r [] s = r ≡ s
+  Records r (item ∷ items) s = (m : Recording S) × IsRecorded r item m × Records m items s
+
+-- the log of one hart that ended at a count
+abbrev pub solo_log : ℕ → ℕ → List ℕ → Cause → List Entry → ℕ → Log
+solo_log pages limit image cause stream count =
+    record { pages = pages; limit = limit; image = image; streams = (stream ++ entries.End count ∷ []) ∷ []; cause = cause }
+
+-- where a recording begins: nothing is held, and nothing was recorded
+abbrev pub first_recording : {S : Type 0} → ℕ → S → Recording S
+first_recording pages first =
+    record { at = record { flat = first; cursor = record { places = 0 ∷ []; numbers = replicate pages 0; ordinal = 0 }; holders = nobody pages 1 }; stream = [] }

@@ -1,0 +1,2 @@
+//! What one hart records.
+#![tactic(auto)]
