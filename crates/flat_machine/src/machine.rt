@@ -1,9 +1,8 @@
 //! The flat machine: its start, its acts and its end.
 
-ghost use Rattle.std.specs.Prelude.{◌≡◌, ◌+◌, ◌%◌, ◌<◌, ◌≤◌, ◌^◌, is_some, unwrap_or, slice_index, slice_get, length, map, replicate, IfOk, IfSome};
+ghost use Rattle.std.specs.Prelude.{◌≡◌, ◌+◌, ◌%◌, ◌<◌, ◌≤◌, ◌^◌, is_some, unwrap_or, slice_index, length, map, replicate, IfOk};
 ghost use Rattle.std.specs.List.{range_with_len};
 ghost use Rattle.rv_hart.specs.Moves.{hart_at_start};
-ghost use Rattle.device_board.specs.Accesses.{RoomIsKept};
 ghost use Rattle.flat_machine.specs.State.{flat_at_start};
 ghost use Rattle.flat_machine.specs.Acts.{next, CountsFit, SendsWithRoom};
 ghost use Rattle.flat_machine.specs.Runs.{final_of};
