@@ -1,0 +1,6 @@
+use Rattle.std.proofs.Common.{rules, arith}
+use Rattle.flat_machine.proofs.Acting.{touch_has_room}
+use Rattle.flat_machine.proofs.machine.tests.Bench.touch.Goals as goal
+
+pub act-requires-clause-room : goal.act-requires-clause-room
+act-requires-clause-room c = touch_has_room _ _ _ (search rules)
