@@ -1,4 +1,4 @@
-use Rattle.std.proofs.Common.{rules, arith}
+use Rattle.std.proofs.Common.{rules}
 use Rattle.flat_machine.proofs.Acting.{touch_has_room}
 use Rattle.flat_machine.proofs.machine.tests.Bench.touch.Goals as goal
 
