@@ -1,0 +1,5 @@
+pub mod Exact
+pub mod Grammar
+pub mod Loop
+pub mod Ranges
+pub mod Spelling

@@ -1,0 +1,7 @@
+use Rattle.std.proofs.Common.{rules, append_assoc}
+use Rattle.log_format.specs.Grammar.{input_format}
+use Rattle.log_format.proofs.writing.put_input.Goals as goal
+
+pub returns : goal.returns
+unfolding input_format
+returns c = search (rules, append_assoc)
