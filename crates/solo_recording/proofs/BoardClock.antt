@@ -19,9 +19,12 @@ use Rattle.flat_machine.specs.declared.act.Act.{Act}
 use Rattle.flat_machine.specs.declared.act.Act.TheVariants.{Run, Touch, Poll, Lose}
 use Rattle.rv_hart.specs.Moves.{need_of}
 use Rattle.replay_model.specs.Board.{board}
-use Rattle.solo_recording.specs.Recording.{IsClocked}
+use Rattle.replay_model.specs.Items.{Item}
+use Rattle.solo_recording.specs.Recording.{Recording, IsClocked, Records, first_recording}
 use Rattle.solo_recording.specs.Lone.{IsLone}
 use Rattle.solo_recording.proofs.Kept.{mapped}
+use Rattle.solo_recording.proofs.Obeying.{tidy_all}
+use Rattle.solo_recording.proofs.Solo.{first_tidy}
 
 -- mtime after an access: not lower, and a Time input's own time
 pub record GoesOn (d e : Devices) (input : Input) : Type 0 where
@@ -210,3 +213,7 @@ clocked = record {
 -- there is no other hart
 pub alone : (s : FlatState) → IsLone s → (h : ℕ) → board.next s (Run (suc h)) ≡ None
 alone s g h = ap (next (Run (suc h))) (is_lone s g)
+
+-- a recording that begins with one hart has one hart
+pub stays_lone : (limit pages : ℕ) (first : FlatState) (r : Recording FlatState) (items : List Item) → IsLone first → board.count first 0 ≡ 0 → Records board limit (first_recording pages first) items r → IsLone r.at.flat
+stays_lone limit pages first r items lone none is = (tidy_all board IsLone clocked limit pages (first_recording pages first) r items is (first_tidy board IsLone clocked limit pages first lone none)).good

@@ -27,6 +27,12 @@ lt_false a b l = elim (leb_tells (suc a) b) [
   | inr (f, more) ↦ f
 ]
 
+pub less_of : (a b : ℕ) → nat_lt a b ≡ true → a < b
+less_of a b e = elim (leb_tells (suc a) b) [
+  | inl (t, l) ↦ omega (arith, l)
+  | inr (f, l) ↦ absurd (true≢false (sym e ∙ f))
+]
+
 lt_true : (a b : ℕ) → a < b → nat_lt a b ≡ true
 lt_true a b l = elim (leb_tells (suc a) b) [
   | inl (t, less) ↦ t

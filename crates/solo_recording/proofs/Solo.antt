@@ -41,8 +41,8 @@ nobody_holds (suc pages) zero zero = refl
 nobody_holds (suc pages) zero (suc h) = refl
 nobody_holds (suc pages) (suc page) h = nobody_holds pages page h
 
-module _ {S V : Type 0} (flat : Flat S V) (Good : S → Type 0) (clocked : IsClocked flat Good) (limit pages : ℕ) (image : List ℕ) (cause : Cause) where
-  first_tidy : (first : S) → Good first → flat.count first 0 ≡ 0 → IsTidy flat Good limit pages (first_recording pages first)
+module _ {S V : Type 0} (flat : Flat S V) (Good : S → Type 0) (clocked : IsClocked flat Good) (limit pages : ℕ) where
+  pub first_tidy : (first : S) → Good first → flat.count first 0 ≡ 0 → IsTidy flat Good limit pages (first_recording pages first)
   first_tidy first good none = record {
     good = good;
     each = λ i e at. absurd (none-some _ at);
@@ -59,6 +59,7 @@ module _ {S V : Type 0} (flat : Flat S V) (Good : S → Type 0) (clocked : IsClo
     rows = λ page l. subst (λ o. 0 < length (unwrap_or o [])) (sym (get_replicate pages page (replicate 1 None) l)) (omega arith);
   }
 
+module _ {S V : Type 0} (flat : Flat S V) (Good : S → Type 0) (clocked : IsClocked flat Good) (limit pages : ℕ) (image : List ℕ) (cause : Cause) where
   last_fits : (s : Recording S) → IsTidy flat Good limit pages s → IsWhole limit pages image cause s.stream (flat.count s.at.flat 0)
   last_fits s tidy = record {
     each = each_push (Fits limit) s.stream (entries.End (flat.count s.at.flat 0)) tidy.each (record {
@@ -81,7 +82,7 @@ module _ {S V : Type 0} (flat : Flat S V) (Good : S → Type 0) (clocked : IsClo
 
   module _ (first : S) (good : Good first) (none : flat.count first 0 ≡ 0) (s : Recording S) (items : List Item) (is : Records flat limit (first_recording pages first) items s) where
     tidy : IsTidy flat Good limit pages s
-    tidy = tidy_all flat Good clocked limit pages (first_recording pages first) s items is (first_tidy first good none)
+    tidy = tidy_all flat Good clocked limit pages (first_recording pages first) s items is (first_tidy flat Good clocked limit pages first good none)
 
     whole : IsWhole limit pages image cause s.stream (flat.count s.at.flat 0)
     whole = last_fits s tidy
@@ -97,11 +98,11 @@ module _ {S V : Type 0} (flat : Flat S V) (Good : S → Type 0) (clocked : IsClo
       touches_go_on = keeps_o4 limit pages image cause s.stream (flat.count s.at.flat 0) whole;
       pages_are_numbered = keeps_o5 limit pages image cause s.stream (flat.count s.at.flat 0) whole;
       holders_are_crew = keeps_o6_by limit pages image cause s.stream (flat.count s.at.flat 0) (λ i e at.
-          crew_from flat Good clocked limit pages image cause (first_recording pages first) s items is (first_tidy first good none) (keeps_o5 limit pages image cause s.stream (flat.count s.at.flat 0) whole) follow i e (omega arith) at);
+          crew_from flat Good clocked limit pages image cause (first_recording pages first) s items is (first_tidy flat Good clocked limit pages first good none) (keeps_o5 limit pages image cause s.stream (flat.count s.at.flat 0) whole) follow i e (omega arith) at);
       gains_name_their_waits = keeps_o7 limit pages image cause s.stream (flat.count s.at.flat 0) whole;
       ordinals_and_times_rise = keeps_o8 limit pages image cause s.stream (flat.count s.at.flat 0) whole;
-      least_order_takes_all = let t = taken_all flat Good clocked limit pages image cause (first_recording pages first) s items is (first_tidy first good none) in (t.0, (t.1, t.2, t.3));
+      least_order_takes_all = let t = taken_all flat Good clocked limit pages image cause (first_recording pages first) s items is (first_tidy flat Good clocked limit pages first good none) in (t.0, (t.1, t.2, t.3));
     }
 
     pub obeyed : ((h : ℕ) → flat.next s.at.flat (Run (suc h)) ≡ None) → replay.IsFullOrder flat (log s) (start (log s) first) (replicate (length items) 0) s.at
-    obeyed alone = full flat Good clocked limit pages image cause (first_recording pages first) s items is (first_tidy first good none) alone
+    obeyed alone = full flat Good clocked limit pages image cause (first_recording pages first) s items is (first_tidy flat Good clocked limit pages first good none) alone

@@ -1,4 +1,5 @@
 -- A recording of one hart holds pages as its log says, and the least order takes the whole log.
+use Rattle.std.proofs.Common.{Bool, nat_lt}
 use Rattle.std.proofs.Common.{◌≡◌, ℕ, zero, suc, ◌+◌, ◌<◌, ◌≤◌, true, false, List, [], ◌∷◌, length, Option, Some, None, slice_get, slice_index, slice_set, is_some, refl, sym, ap, ◌∙◌, subst, inl, inr, ⊎_elim, arith, if◌then◌else◌}
 use Rattle.std.specs.Option.{option_map, option_and_then}
 use Rattle.std.proofs.lemmas.Option.{same_Some}
@@ -6,6 +7,7 @@ use Rattle.std.proofs.lemmas.Bool.Decides.{eqb_tells}
 use Rattle.std.proofs.lemmas.List.{length_push}
 use Rattle.orders_law.specs.Orders.{IsLeast, least}
 use Rattle.rv_words.specs.declared.shared.Cause.{Cause}
+use Rattle.rv_words.specs.declared.shared.Mode.{Mode}
 use Rattle.log_entry.specs.declared.log.Entry.{Entry}
 use Rattle.log_entry.specs.declared.log.Entry.TheVariants as entries
 use Rattle.log_entry.specs.declared.log.Log.{Log}
@@ -18,7 +20,7 @@ use Rattle.order_rules.specs.Rules.{breaks_o6}
 use Rattle.replay_model.specs.Flat.{Flat}
 use Rattle.flat_machine.specs.declared.act.Act.TheVariants.{Run, Touch, Poll}
 use Rattle.replay_model.specs.Holders.{held}
-use Rattle.replay_model.specs.State.{Replay}
+use Rattle.replay_model.specs.State.{Replay, want}
 use Rattle.replay_model.specs.Items.{Item, Ended, Move, Makes, acted, past}
 use Rattle.replay_model.specs.Laws.{Follow}
 use Rattle.replay_model.proofs.Follow.{still_follow, index_is}
@@ -26,7 +28,7 @@ use Rattle.solo_recording.specs.Recording.{Recording, IsClocked, IsRecorded, Rec
 use Rattle.solo_recording.proofs.Prefix.{at_snoc, at_end}
 use Rattle.solo_recording.proofs.Tidy.{IsTidy, met}
 use Rattle.solo_recording.proofs.Kept.{mapped, tidy_item, next_number}
-use Rattle.solo_recording.proofs.Rules.{le_false, or_none}
+use Rattle.solo_recording.proofs.Rules.{le_false, or_none, find_at, less_of}
 use Rattle.solo_recording.proofs.Obeying.{log_to, ended, stays, first_is}
 
 pub past_end : {X : Type 0} (xs : List X) (i : ℕ) → length xs ≤ i → slice_get xs i ≡ None
@@ -44,13 +46,22 @@ module _ {S V : Type 0} (flat : Flat S V) (Good : S → Type 0) (clocked : IsClo
   abbrev Follows : Recording S → Replay S → Type 0
   Follows s a = Follow (log s) a.holders a.cursor.numbers
 
+  -- what a hart doesn't hold so is worth less than what it wants
+  abbrev want_tests : Recording S → ℕ × Mode → Bool
+  want_tests r n = nat_lt (strength (held r.at.holders n.0 0)) (strength (Some n.1))
+
+  lacking : (r : Recording S) (page : ℕ) (mode : Mode) → want flat r.at 0 ≡ Some (page, mode) → strength (held r.at.holders page 0) < strength (Some mode)
+  lacking r page mode wants =
+      let n : ℕ × Mode = (page, mode) in
+      less_of _ _ (find_at (want_tests r) (flat.need r.at.flat 0) n wants).2
+
   -- an entry that is made, with what its hart holds before it as the log says
   gains : (r s : Recording S) (i : ℕ) (e : Entry) (m : Recording S) → IsTidy flat Good limit pages r → Follows s r.at → IsRecorded flat limit r (Makes e) m → breaks_o6 (log s) (at i e) ≡ false
   gains r s i (entries.Gain count page seq mode waits) m tidy follow one =
       let inside = one.allowed.3 in
       let number = next_number flat Good clocked limit pages r page seq tidy (omega (arith, inside, tidy.holders)) (met (guard_is_met r.at.cursor (entries.Gain count page seq mode waits)) _ one.goes) in
       let same : held r.at.holders page 0 ≡ rules.held (log s) page 0 seq = follow page 0 ∙ ap (rules.held (log s) page 0) (index_is r.at.cursor.numbers page seq number) in
-      let more = one.allowed.2 in
+      let more = lacking r page mode one.allowed.2 in
       or_none _ _ (le_false (strength (Some mode)) (strength (rules.held (log s) page 0 seq)) (subst (λ h. strength h < strength (Some mode)) same more)) refl
   gains r s i (entries.Yield count page seq left) m tidy follow one = absurd one.allowed
   gains r s i (entries.Poll count ord time bits) m tidy follow one = refl

@@ -1,18 +1,18 @@
 -- What one hart records: items made one after another, and the entries that they leave in its stream (docs/recorder.md).
-use Rattle.std.specs.Prelude.{ℕ, ◌≡◌, ◌≢◌, ◌+◌, ◌%◌, ◌<◌, ◌≤◌, true, List, [], ◌∷◌, ◌++◌, slice_get, Some, length, replicate}
+use Rattle.std.specs.Prelude.{false, ℕ, ◌≡◌, ◌≢◌, ◌+◌, ◌%◌, ◌<◌, ◌≤◌, true, List, [], ◌∷◌, ◌++◌, slice_get, Some, length, replicate}
 use Rattle.rv_words.specs.declared.shared.Cause.{Cause}
 use Rattle.log_entry.specs.declared.log.Entry.{Entry}
 use Rattle.log_entry.specs.declared.log.Entry.TheVariants as entries
 use Rattle.log_entry.specs.declared.log.Log.{Log}
-use Rattle.log_entry.specs.Parts.{count_of, strength}
+use Rattle.log_entry.specs.Parts.{count_of}
 use Rattle.order_rules.specs.Rules.{has_poll}
 use Rattle.rv_words.specs.declared.shared.Input.{Input}
 use Rattle.rv_words.specs.declared.shared.Input.TheVariants.{Time}
 use Rattle.replay_model.specs.Flat.{Flat}
 use Rattle.flat_machine.specs.declared.act.Act.{Act}
 use Rattle.flat_machine.specs.declared.act.Act.TheVariants.{Run, Touch, Poll}
-use Rattle.replay_model.specs.Holders.{held, nobody}
-use Rattle.replay_model.specs.State.{Replay}
+use Rattle.replay_model.specs.Holders.{nobody}
+use Rattle.replay_model.specs.State.{Replay, want}
 use Rattle.replay_model.specs.Items.{Item, Ended, Move, Makes, CanGo, verdict_on, made}
 
 -- a state of the run, and the hart's entries so far
@@ -48,17 +48,21 @@ module _ {S V : Type 0} (flat : Flat S V) (limit : ℕ) where
   abbrev pub now : Recording S → ℕ
   now r = flat.count r.at.flat 0
 
-  -- a move below the limit, its Poll made; a Poll at its due count before any other entry there; a Gain of more than was held, with no waits
+  -- a move below the limit, its Poll made; a Poll at its due count before any other entry there; a Gain of what is wanted,
+  -- without waits, below the limit and after the Poll
   abbrev pub Allowed : Recording S → Item → Type 0
   Allowed r Ended = ⊥
   Allowed r Move = (now r < limit) × IsPolled r.stream (now r)
-  Allowed r (Makes (entries.Gain count page seq mode waits)) = (count ≡ now r) × (waits.items ≡ []) × (strength (held r.at.holders page 0) < strength (Some mode)) × (page < length r.at.holders)
+  Allowed r (Makes (entries.Gain count page seq mode waits)) =
+      (count ≡ now r) × (waits.items ≡ []) × (want flat r.at 0 ≡ Some (page, mode)) × (page < length r.at.holders) × (count < limit) × IsPolled r.stream count
   Allowed r (Makes (entries.Yield count page seq left)) = ⊥
   Allowed r (Makes (entries.Poll count ord time bits)) = (count ≡ now r) × (count < limit) × (count % 4096 ≡ 0) × NoneAt r.stream count
   Allowed r (Makes (entries.Touch count ord input)) = (count ≡ now r) × (count < limit) × IsPolled r.stream count
   Allowed r (Makes (entries.End count)) = ⊥
 
+  -- an item is made while stop isn't set
   pub record IsRecorded (r : Recording S) (item : Item) (s : Recording S) : Type 0 where
+    pub running : flat.is_stopped r.at.flat ≡ false
     pub allowed : Allowed r item
     pub goes : verdict_on flat r.at 0 item ≡ CanGo
     pub made : made flat r.at 0 item ≡ Some s.at
@@ -78,3 +82,7 @@ solo_log pages limit image cause stream count =
 abbrev pub first_recording : {S : Type 0} → ℕ → S → Recording S
 first_recording pages first =
     record { at = record { flat = first; cursor = record { places = 0 ∷ []; numbers = replicate pages 0; ordinal = 0 }; holders = nobody pages 1 }; stream = [] }
+
+-- the log of a recording
+abbrev pub log_of_recording : {S V : Type 0} → Flat S V → ℕ → ℕ → List ℕ → Cause → Recording S → Log
+log_of_recording flat limit pages image cause r = solo_log pages limit image cause r.stream (flat.count r.at.flat 0)
