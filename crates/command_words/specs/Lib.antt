@@ -1,0 +1,5 @@
+pub mod Texts
+pub mod Options
+pub mod Tables
+pub mod Grammar
+pub mod Behind

@@ -1,0 +1,43 @@
+//! The words of the command line: `read_words` gives the job that they ask for, or the place of the first word that
+//! can't stand there. specs/Grammar.antt has the grammar, specs/Tables.antt the options.
+#![tactic(auto)]
+
+ghost use Rattle.std.specs.Prelude.{◌≡◌, MatchResult, Ok, Err};
+ghost use Rattle.command_words.specs.Texts.{texts};
+ghost use Rattle.command_words.specs.Grammar.{job_of, asks_free_run};
+
+mod job;
+mod other;
+mod record;
+mod replay;
+#[cfg(test)]
+mod tests;
+mod value;
+mod word;
+
+pub use job::{Job, Usage, Way};
+
+/// The job that the words ask for, exactly where they are in the grammar.
+pub fn read_words(words: &[String]) -> Result<Job, Usage>
+    ensures { MatchResult result (λ job. job_of (texts words.now) ≡ Ok job) (λ u. job_of (texts words.now) ≡ Err u.place) }
+{
+    let [command, rest @ ..] = words else {
+        return Err(Usage { place: 0 });
+    };
+    match command.as_str() {
+        "record" => record::record_words(rest),
+        "replay" => replay::replay_words(rest),
+        "inspect" => other::inspect_words(rest),
+        "trace" => other::trace_words(rest),
+        "sample" => other::sample_words(rest),
+        _ => Err(Usage { place: 0 }),
+    }
+}
+
+/// Whether the words are in the grammar and ask for a free run. No free run is served yet, so no words do.
+pub fn free_words(words: &[String]) -> bool
+    ensures { result ≡ asks_free_run (texts words.now) }
+{
+    let _ = words;
+    false
+}

@@ -1,0 +1,85 @@
+ghost use Rattle.std.specs.Prelude.{◌≡◌, MatchResult, Ok, Err};
+ghost use Rattle.command_words.specs.Texts.{texts};
+ghost use Rattle.command_words.specs.Grammar.{inspect_of, trace_of, moves_of, sample_of};
+
+use crate::word::{is_name, is_second_name, number_in};
+use crate::{Job, Usage};
+
+/// The most moves that a hart makes.
+const MOST_MOVES: u64 = 1_000_000_000_000;
+
+/// The most moves of one trace.
+const LONGEST_TRACE: u64 = 1_000_000;
+
+/// The job of the words behind `inspect`.
+pub(crate) fn inspect_words(words: &[String]) -> Result<Job, Usage>
+    ensures { MatchResult result (λ job. inspect_of (texts words.now) ≡ Ok job) (λ u. inspect_of (texts words.now) ≡ Err u.place) }
+{
+    match words {
+        [] => Err(Usage { place: 1 }),
+        [log, ..] if !is_name(log) => Err(Usage { place: 1 }),
+        [_] => Ok(Job::Inspect { log: 1 }),
+        _ => Err(Usage { place: 2 }),
+    }
+}
+
+/// The job of the words behind `sample`.
+pub(crate) fn sample_words(words: &[String]) -> Result<Job, Usage>
+    ensures { MatchResult result (λ job. sample_of (texts words.now) ≡ Ok job) (λ u. sample_of (texts words.now) ≡ Err u.place) }
+{
+    let [word, rest @ ..] = words else {
+        return Err(Usage { place: 1 });
+    };
+    match number_in(0, 4_294_967_295, word) {
+        None => Err(Usage { place: 1 }),
+        Some(_) if !rest.is_empty() => Err(Usage { place: 2 }),
+        Some(number) => Ok(Job::Sample { number: number as u32 }),
+    }
+}
+
+/// The trace that the words behind IMAGE and LOG ask for: HART FROM TO.
+fn moves_words(words: &[String]) -> Result<Job, Usage>
+    ensures { MatchResult result (λ job. moves_of (texts words.now) ≡ Ok job) (λ u. moves_of (texts words.now) ≡ Err u.place) }
+{
+    let [hart, rest @ ..] = words else {
+        return Err(Usage { place: 3 });
+    };
+    let Some(hart) = number_in(0, 7, hart) else {
+        return Err(Usage { place: 3 });
+    };
+    let [from, rest @ ..] = rest else {
+        return Err(Usage { place: 4 });
+    };
+    let Some(from) = number_in(0, MOST_MOVES, from) else {
+        return Err(Usage { place: 4 });
+    };
+    let [to, rest @ ..] = rest else {
+        return Err(Usage { place: 5 });
+    };
+    let Some(to) = number_in(from, (from + LONGEST_TRACE).min(MOST_MOVES), to) else {
+        return Err(Usage { place: 5 });
+    };
+    if !rest.is_empty() {
+        return Err(Usage { place: 6 });
+    }
+    Ok(Job::Trace { image: 1, log: 2, hart: hart as u8, from, to })
+}
+
+/// The job of the words behind `trace`.
+pub(crate) fn trace_words(words: &[String]) -> Result<Job, Usage>
+    ensures { MatchResult result (λ job. trace_of (texts words.now) ≡ Ok job) (λ u. trace_of (texts words.now) ≡ Err u.place) }
+{
+    let [image, rest @ ..] = words else {
+        return Err(Usage { place: 1 });
+    };
+    if !is_name(image) {
+        return Err(Usage { place: 1 });
+    }
+    let [log, rest @ ..] = rest else {
+        return Err(Usage { place: 2 });
+    };
+    if !is_second_name(log, image) {
+        return Err(Usage { place: 2 });
+    }
+    moves_words(rest)
+}

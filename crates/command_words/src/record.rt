@@ -1,0 +1,111 @@
+ghost use Rattle.std.specs.Prelude.{◌≡◌, ◌+◌, ◌<◌, ◌^◌, IsTrue, [], ◌∷◌, length, string_bytes, MatchResult, IfOk, Ok, Err};
+ghost use Rattle.command_words.specs.Texts.{texts};
+ghost use Rattle.command_words.specs.Options.{options, AnOption};
+ghost use Rattle.command_words.specs.Behind.{words_behind, place_behind};
+ghost use Rattle.command_words.specs.Tables.{record_option, no_record_option};
+ghost use Rattle.command_words.specs.Grammar.{record_of};
+
+use crate::value::{name_behind, number_behind};
+use crate::word::{is_name, is_second_name};
+use crate::{Job, Usage};
+
+/// The options that were given.
+#[derive(Clone, Copy)]
+struct RecordOptions {
+    harts: Option<u8>,
+    pages: Option<u16>,
+    limit: Option<u64>,
+    log_limit: Option<u64>,
+    dump: Option<u64>,
+    rounds: bool,
+}
+
+/// The options with the one at `place`, and whether it has a value, which is the first of `words`.
+fn record_option(
+    given: RecordOptions,
+    place: u64,
+    option: &String,
+    words: &[String],
+    image: &String,
+    log: &String,
+) -> Result<(RecordOptions, bool), Usage>
+    requires { place < 2 ^ 63 }
+    ensures reads { let names = string_bytes image.now ∷ string_bytes log.now ∷ [] in let before = options record_option names (AnOption given) place (string_bytes option.now ∷ texts words.now) in MatchResult result (λ r. before ≡ options record_option names (AnOption r.0) (place_behind r.1 place) (words_behind r.1 (texts words.now))) (λ u. before ≡ Err u.place) }
+    ensures room { IfOk result (λ r. IsTrue r.1 → 0 < length words.now) }
+{
+    match option.as_str() {
+        "--harts" => {
+            let harts = number_behind(given.harts.is_some(), place, words, 1, 8)?;
+            Ok((RecordOptions { harts: Some(harts as u8), ..given }, true))
+        }
+        "--pages" => {
+            let pages = number_behind(given.pages.is_some(), place, words, 1, 4096)?;
+            Ok((RecordOptions { pages: Some(pages as u16), ..given }, true))
+        }
+        "--limit" => {
+            let limit = number_behind(given.limit.is_some(), place, words, 0, 1_000_000_000_000)?;
+            Ok((RecordOptions { limit: Some(limit), ..given }, true))
+        }
+        "--log-limit" => {
+            let log_limit = number_behind(given.log_limit.is_some(), place, words, 1024, 536_870_912)?;
+            Ok((RecordOptions { log_limit: Some(log_limit), ..given }, true))
+        }
+        "--dump" => {
+            let dump = name_behind(given.dump.is_some(), place, words, image, log)?;
+            Ok((RecordOptions { dump: Some(dump), ..given }, true))
+        }
+        "--rounds" if !given.rounds => Ok((RecordOptions { rounds: true, ..given }, false)),
+        _ => Err(Usage { place }),
+    }
+}
+
+fn record_options(words: &[String], image: &String, log: &String) -> Result<RecordOptions, Usage>
+    ensures { let names = string_bytes image.now ∷ string_bytes log.now ∷ [] in MatchResult result (λ given. options record_option names (AnOption no_record_option) 3 (texts words.now) ≡ Ok given) (λ u. options record_option names (AnOption no_record_option) 3 (texts words.now) ≡ Err u.place) }
+{
+    let mut given = RecordOptions {
+        harts: None,
+        pages: None,
+        limit: None,
+        log_limit: None,
+        dump: None,
+        rounds: false,
+    };
+    let mut place = 3;
+    let mut rest = words;
+    while let [option, tail @ ..] = rest {
+        let (more, has_value) = record_option(given, place, option, tail, image, log)?;
+        given = more;
+        place += if has_value { 2 } else { 1 };
+        rest = if has_value { &tail[1..] } else { tail };
+    }
+    Ok(given)
+}
+
+/// The job of the words behind `record`.
+pub(crate) fn record_words(words: &[String]) -> Result<Job, Usage>
+    ensures { MatchResult result (λ job. record_of (texts words.now) ≡ Ok job) (λ u. record_of (texts words.now) ≡ Err u.place) }
+{
+    let [image, rest @ ..] = words else {
+        return Err(Usage { place: 1 });
+    };
+    if !is_name(image) {
+        return Err(Usage { place: 1 });
+    }
+    let [log, rest @ ..] = rest else {
+        return Err(Usage { place: 2 });
+    };
+    if !is_second_name(log, image) {
+        return Err(Usage { place: 2 });
+    }
+    let given = record_options(rest, image, log)?;
+    Ok(Job::Record {
+        image: 1,
+        log: 2,
+        harts: given.harts.unwrap_or(1),
+        pages: given.pages.unwrap_or(4096),
+        limit: given.limit.unwrap_or(10_000_000),
+        log_limit: given.log_limit.unwrap_or(67_108_864),
+        dump: given.dump,
+        rounds: given.rounds,
+    })
+}

@@ -1,0 +1,81 @@
+ghost use Rattle.std.specs.Prelude.{◌≡◌, ◌+◌, ◌<◌, ◌^◌, IsTrue, [], ◌∷◌, length, string_bytes, MatchResult, IfOk, Ok, Err};
+ghost use Rattle.command_words.specs.Texts.{texts};
+ghost use Rattle.command_words.specs.Options.{options, AnOption};
+ghost use Rattle.command_words.specs.Behind.{words_behind, place_behind};
+ghost use Rattle.command_words.specs.Tables.{replay_option, no_replay_option};
+ghost use Rattle.command_words.specs.Grammar.{replay_of};
+
+use crate::value::name_behind;
+use crate::word::{is_name, is_second_name};
+use crate::{Job, Usage, Way};
+
+/// The options that were given.
+#[derive(Clone, Copy)]
+struct ReplayOptions {
+    dump: Option<u64>,
+    way: Option<Way>,
+}
+
+/// The options with the one at `place`, and whether it has a value, which is the first of `words`.
+fn replay_option(
+    given: ReplayOptions,
+    place: u64,
+    option: &String,
+    words: &[String],
+    image: &String,
+    log: &String,
+) -> Result<(ReplayOptions, bool), Usage>
+    requires { place < 2 ^ 63 }
+    ensures reads { let names = string_bytes image.now ∷ string_bytes log.now ∷ [] in let before = options replay_option names (AnOption given) place (string_bytes option.now ∷ texts words.now) in MatchResult result (λ r. before ≡ options replay_option names (AnOption r.0) (place_behind r.1 place) (words_behind r.1 (texts words.now))) (λ u. before ≡ Err u.place) }
+    ensures room { IfOk result (λ r. IsTrue r.1 → 0 < length words.now) }
+{
+    match option.as_str() {
+        "--dump" => {
+            let dump = name_behind(given.dump.is_some(), place, words, image, log)?;
+            Ok((ReplayOptions { dump: Some(dump), ..given }, true))
+        }
+        "--one" if given.way.is_none() => Ok((ReplayOptions { way: Some(Way::One), ..given }, false)),
+        "--rounds" if given.way.is_none() => Ok((ReplayOptions { way: Some(Way::Rounds), ..given }, false)),
+        _ => Err(Usage { place }),
+    }
+}
+
+fn replay_options(words: &[String], image: &String, log: &String) -> Result<ReplayOptions, Usage>
+    ensures { let names = string_bytes image.now ∷ string_bytes log.now ∷ [] in MatchResult result (λ given. options replay_option names (AnOption no_replay_option) 3 (texts words.now) ≡ Ok given) (λ u. options replay_option names (AnOption no_replay_option) 3 (texts words.now) ≡ Err u.place) }
+{
+    let mut given = ReplayOptions { dump: None, way: None };
+    let mut place = 3;
+    let mut rest = words;
+    while let [option, tail @ ..] = rest {
+        let (more, has_value) = replay_option(given, place, option, tail, image, log)?;
+        given = more;
+        place += if has_value { 2 } else { 1 };
+        rest = if has_value { &tail[1..] } else { tail };
+    }
+    Ok(given)
+}
+
+/// The job of the words behind `replay`.
+pub(crate) fn replay_words(words: &[String]) -> Result<Job, Usage>
+    ensures { MatchResult result (λ job. replay_of (texts words.now) ≡ Ok job) (λ u. replay_of (texts words.now) ≡ Err u.place) }
+{
+    let [image, rest @ ..] = words else {
+        return Err(Usage { place: 1 });
+    };
+    if !is_name(image) {
+        return Err(Usage { place: 1 });
+    }
+    let [log, rest @ ..] = rest else {
+        return Err(Usage { place: 2 });
+    };
+    if !is_second_name(log, image) {
+        return Err(Usage { place: 2 });
+    }
+    let given = replay_options(rest, image, log)?;
+    Ok(Job::Replay {
+        image: 1,
+        log: 2,
+        dump: given.dump,
+        way: given.way.unwrap_or(Way::Plain),
+    })
+}
