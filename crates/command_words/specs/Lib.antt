@@ -3,3 +3,4 @@ pub mod Options
 pub mod Tables
 pub mod Grammar
 pub mod Behind
+pub mod Allowed

@@ -2,9 +2,10 @@
 //! can't stand there. specs/Grammar.antt has the grammar, specs/Tables.antt the options.
 #![tactic(auto)]
 
-ghost use Rattle.std.specs.Prelude.{◌≡◌, MatchResult, Ok, Err};
+ghost use Rattle.std.specs.Prelude.{◌≡◌, length, MatchResult, IfOk, Ok, Err};
 ghost use Rattle.command_words.specs.Texts.{texts};
 ghost use Rattle.command_words.specs.Grammar.{job_of, asks_free_run};
+ghost use Rattle.command_words.specs.Allowed.{ArePlaces, IsInRange};
 
 mod job;
 mod other;
@@ -19,7 +20,9 @@ pub use job::{Job, Usage, Way};
 
 /// The job that the words ask for, exactly where they are in the grammar.
 pub fn read_words(words: &[String]) -> Result<Job, Usage>
-    ensures { MatchResult result (λ job. job_of (texts words.now) ≡ Ok job) (λ u. job_of (texts words.now) ≡ Err u.place) }
+    ensures job { MatchResult result (λ job. job_of (texts words.now) ≡ Ok job) (λ u. job_of (texts words.now) ≡ Err u.place) }
+    ensures places { IfOk result (ArePlaces (length words.now)) }
+    ensures ranges { IfOk result IsInRange }
 {
     let [command, rest @ ..] = words else {
         return Err(Usage { place: 0 });

@@ -1,6 +1,7 @@
-ghost use Rattle.std.specs.Prelude.{◌≡◌, MatchResult, Ok, Err};
+ghost use Rattle.std.specs.Prelude.{◌≡◌, ◌+◌, length, MatchResult, IfOk, Ok, Err};
 ghost use Rattle.command_words.specs.Texts.{texts};
 ghost use Rattle.command_words.specs.Grammar.{inspect_of, trace_of, moves_of, sample_of};
+ghost use Rattle.command_words.specs.Allowed.{ArePlaces, IsInRange};
 
 use crate::word::{is_name, is_second_name, number_in};
 use crate::{Job, Usage};
@@ -13,7 +14,9 @@ const LONGEST_TRACE: u64 = 1_000_000;
 
 /// The job of the words behind `inspect`.
 pub(crate) fn inspect_words(words: &[String]) -> Result<Job, Usage>
-    ensures { MatchResult result (λ job. inspect_of (texts words.now) ≡ Ok job) (λ u. inspect_of (texts words.now) ≡ Err u.place) }
+    ensures reads { MatchResult result (λ job. inspect_of (texts words.now) ≡ Ok job) (λ u. inspect_of (texts words.now) ≡ Err u.place) }
+    ensures places { IfOk result (ArePlaces (1 + length words.now)) }
+    ensures ranges { IfOk result IsInRange }
 {
     match words {
         [] => Err(Usage { place: 1 }),
@@ -25,7 +28,9 @@ pub(crate) fn inspect_words(words: &[String]) -> Result<Job, Usage>
 
 /// The job of the words behind `sample`.
 pub(crate) fn sample_words(words: &[String]) -> Result<Job, Usage>
-    ensures { MatchResult result (λ job. sample_of (texts words.now) ≡ Ok job) (λ u. sample_of (texts words.now) ≡ Err u.place) }
+    ensures reads { MatchResult result (λ job. sample_of (texts words.now) ≡ Ok job) (λ u. sample_of (texts words.now) ≡ Err u.place) }
+    ensures places { IfOk result (ArePlaces (1 + length words.now)) }
+    ensures ranges { IfOk result IsInRange }
 {
     let [word, rest @ ..] = words else {
         return Err(Usage { place: 1 });
@@ -39,7 +44,9 @@ pub(crate) fn sample_words(words: &[String]) -> Result<Job, Usage>
 
 /// The trace that the words behind IMAGE and LOG ask for: HART FROM TO.
 fn moves_words(words: &[String]) -> Result<Job, Usage>
-    ensures { MatchResult result (λ job. moves_of (texts words.now) ≡ Ok job) (λ u. moves_of (texts words.now) ≡ Err u.place) }
+    ensures reads { MatchResult result (λ job. moves_of (texts words.now) ≡ Ok job) (λ u. moves_of (texts words.now) ≡ Err u.place) }
+    ensures places { IfOk result (ArePlaces 3) }
+    ensures ranges { IfOk result IsInRange }
 {
     let [hart, rest @ ..] = words else {
         return Err(Usage { place: 3 });
@@ -67,7 +74,9 @@ fn moves_words(words: &[String]) -> Result<Job, Usage>
 
 /// The job of the words behind `trace`.
 pub(crate) fn trace_words(words: &[String]) -> Result<Job, Usage>
-    ensures { MatchResult result (λ job. trace_of (texts words.now) ≡ Ok job) (λ u. trace_of (texts words.now) ≡ Err u.place) }
+    ensures reads { MatchResult result (λ job. trace_of (texts words.now) ≡ Ok job) (λ u. trace_of (texts words.now) ≡ Err u.place) }
+    ensures places { IfOk result (ArePlaces (1 + length words.now)) }
+    ensures ranges { IfOk result IsInRange }
 {
     let [image, rest @ ..] = words else {
         return Err(Usage { place: 1 });

@@ -4,6 +4,7 @@ ghost use Rattle.command_words.specs.Options.{options, AnOption};
 ghost use Rattle.command_words.specs.Behind.{words_behind, place_behind};
 ghost use Rattle.command_words.specs.Tables.{record_option, no_record_option};
 ghost use Rattle.command_words.specs.Grammar.{record_of};
+ghost use Rattle.command_words.specs.Allowed.{IsBelow, AreInRange, ArePlaces, IsInRange};
 
 use crate::value::{name_behind, number_behind};
 use crate::word::{is_name, is_second_name};
@@ -32,6 +33,8 @@ fn record_option(
     requires { place < 2 ^ 63 }
     ensures reads { let names = string_bytes image.now ∷ string_bytes log.now ∷ [] in let before = options record_option names (AnOption given) place (string_bytes option.now ∷ texts words.now) in MatchResult result (λ r. before ≡ options record_option names (AnOption r.0) (place_behind r.1 place) (words_behind r.1 (texts words.now))) (λ u. before ≡ Err u.place) }
     ensures room { IfOk result (λ r. IsTrue r.1 → 0 < length words.now) }
+    ensures dump { IfOk result (λ r. IsBelow (place + 1 + length words.now) given.dump → IsBelow (place + 1 + length words.now) r.0.dump) }
+    ensures ranges { IfOk result (λ r. AreInRange given → AreInRange r.0) }
 {
     match option.as_str() {
         "--harts" => {
@@ -60,7 +63,9 @@ fn record_option(
 }
 
 fn record_options(words: &[String], image: &String, log: &String) -> Result<RecordOptions, Usage>
-    ensures { let names = string_bytes image.now ∷ string_bytes log.now ∷ [] in MatchResult result (λ given. options record_option names (AnOption no_record_option) 3 (texts words.now) ≡ Ok given) (λ u. options record_option names (AnOption no_record_option) 3 (texts words.now) ≡ Err u.place) }
+    ensures reads { let names = string_bytes image.now ∷ string_bytes log.now ∷ [] in MatchResult result (λ given. options record_option names (AnOption no_record_option) 3 (texts words.now) ≡ Ok given) (λ u. options record_option names (AnOption no_record_option) 3 (texts words.now) ≡ Err u.place) }
+    ensures dump { IfOk result (λ given. IsBelow (3 + length words.now) given.dump) }
+    ensures ranges { IfOk result (λ given. AreInRange given) }
 {
     let mut given = RecordOptions {
         harts: None,
@@ -83,7 +88,9 @@ fn record_options(words: &[String], image: &String, log: &String) -> Result<Reco
 
 /// The job of the words behind `record`.
 pub(crate) fn record_words(words: &[String]) -> Result<Job, Usage>
-    ensures { MatchResult result (λ job. record_of (texts words.now) ≡ Ok job) (λ u. record_of (texts words.now) ≡ Err u.place) }
+    ensures reads { MatchResult result (λ job. record_of (texts words.now) ≡ Ok job) (λ u. record_of (texts words.now) ≡ Err u.place) }
+    ensures places { IfOk result (ArePlaces (1 + length words.now)) }
+    ensures ranges { IfOk result IsInRange }
 {
     let [image, rest @ ..] = words else {
         return Err(Usage { place: 1 });

@@ -26,7 +26,8 @@ pub(crate) fn number_behind(again: bool, place: u64, words: &[String], least: u6
 /// The place of the file's name behind an option at `place`, `again` where the option was given before.
 pub(crate) fn name_behind(again: bool, place: u64, words: &[String], image: &String, log: &String) -> Result<u64, Usage>
     requires { place < 2 ^ 63 }
-    ensures { MatchResult result (λ n. name_behind again place (texts words.now) (string_bytes image.now ∷ string_bytes log.now ∷ []) ≡ Ok n) (λ u. name_behind again place (texts words.now) (string_bytes image.now ∷ string_bytes log.now ∷ []) ≡ Err u.place) }
+    ensures value { MatchResult result (λ n. name_behind again place (texts words.now) (string_bytes image.now ∷ string_bytes log.now ∷ []) ≡ Ok n) (λ u. name_behind again place (texts words.now) (string_bytes image.now ∷ string_bytes log.now ∷ []) ≡ Err u.place) }
+    ensures there { IfOk result (λ n. n < place + 1 + length words.now) }
 {
     if again {
         return Err(Usage { place });

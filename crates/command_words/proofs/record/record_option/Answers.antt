@@ -20,5 +20,5 @@ returns-in_err-log_limit-in-text-4-clause-reads c =
 pub returns-in_err-dump-in-text-5-clause-reads : goal.returns-in_err-dump-in-text-5-clause-reads
 returns-in_err-dump-in-text-5-clause-reads c =
     let row : record_option c.args.given (string_bytes c.args.option.now) ≡ once c.is_some-in-text-5.result (AName (λ place. record c.args.given { dump = Some place })) = search rules in
-    let refused = name_refused record_option (string_bytes c.args.image.now ∷ string_bytes c.args.log.now ∷ []) c.args.given c.args.place (string_bytes c.args.option.now) (texts c.args.words.now) c.is_some-in-text-5.result (λ place. record c.args.given { dump = Some place }) _ row c.in_err-dump-in-text-5.ensures in
+    let refused = name_refused record_option (string_bytes c.args.image.now ∷ string_bytes c.args.log.now ∷ []) c.args.given c.args.place (string_bytes c.args.option.now) (texts c.args.words.now) c.is_some-in-text-5.result (λ place. record c.args.given { dump = Some place }) _ row c.in_err-dump-in-text-5.ensures.value in
     search (rules, refused)

@@ -1,0 +1,31 @@
+-- What holds of each job that words ask for.
+use Rattle.std.specs.Prelude.{ℕ, ◌+◌, ◌<◌, ◌≤◌, Option, Some, None}
+use Rattle.command_words.specs.declared.job.Job.{Job}
+use Rattle.command_words.specs.declared.job.Job.TheVariants.{Record, Replay, Inspect, Trace, Sample}
+use Rattle.command_words.specs.declared.record.RecordOptions.{RecordOptions}
+
+abbrev pub IsWithin : ℕ → ℕ → Option ℕ → Type 0
+IsWithin least greatest None = Unit {0}
+IsWithin least greatest (Some n) = (least ≤ n) × (n ≤ greatest)
+
+abbrev pub IsBelow : ℕ → Option ℕ → Type 0
+IsBelow count None = Unit {0}
+IsBelow count (Some place) = place < count
+
+abbrev pub AreInRange : RecordOptions → Type 0
+AreInRange given = IsWithin 1 8 given.harts × IsWithin 1 4096 given.pages × IsWithin 0 1000000000000 given.limit × IsWithin 1024 536870912 given.log_limit
+
+-- the files of a job are among so many words
+abbrev pub ArePlaces : ℕ → Job → Type 0
+ArePlaces count (Record image log harts pages limit log_limit dump rounds) = (image < count) × (log < count) × IsBelow count dump
+ArePlaces count (Replay image log dump way) = (image < count) × (log < count) × IsBelow count dump
+ArePlaces count (Inspect log) = log < count
+ArePlaces count (Trace image log hart from to) = (image < count) × (log < count)
+ArePlaces count (Sample n) = Unit {0}
+
+-- the numbers of a job are in their ranges
+abbrev pub IsInRange : Job → Type 0
+IsInRange (Record image log harts pages limit log_limit dump rounds) =
+    IsWithin 1 8 (Some harts) × IsWithin 1 4096 (Some pages) × (limit ≤ 1000000000000) × IsWithin 1024 536870912 (Some log_limit)
+IsInRange (Trace image log hart from to) = (hart < 8) × (from ≤ to) × (to ≤ from + 1000000) × (to ≤ 1000000000000)
+IsInRange _ = Unit {0}
