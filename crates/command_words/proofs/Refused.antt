@@ -1,7 +1,6 @@
 -- An option whose value can't stand behind it.
-use Rattle.std.proofs.Common.{◌≡◌, ℕ, ◌+◌, Bool, true, false, List, [], ◌∷◌, Option, Some, None, Result, Ok, Err, arith, cond}
+use Rattle.std.proofs.Common.{◌≡◌, ℕ, Bool, true, false, List, [], ◌∷◌, Option, Err, arith}
 use Rattle.std.proofs.lemmas.Grind.{common_steps}
-use Rattle.command_words.specs.Texts.{is_name, number_in}
 use Rattle.command_words.specs.Options.{Next, AnOption, ANumber, AName, once, options}
 use Rattle.command_words.specs.Behind.{number_behind, name_behind}
 

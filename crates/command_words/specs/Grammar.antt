@@ -1,8 +1,8 @@
 -- The words of the command line: a command, its names and numbers, then its options.
-use Rattle.std.specs.Prelude.{ℕ, ◌+◌, ◌≡◌, min, Bool, true, false, List, [], ◌∷◌, Option, Some, None, Result, Ok, Err, codes, if◌then◌else◌}
+use Rattle.std.specs.Prelude.{ℕ, ◌+◌, min, Bool, false, List, [], ◌∷◌, Some, None, Result, Ok, Err, codes, if◌then◌else◌}
 use Rattle.std.specs.Str.{bytes_eq}
 use Rattle.command_words.specs.declared.job.Job.{Job}
-use Rattle.command_words.specs.declared.job.Job.TheVariants.{Record, Replay, Inspect, Trace, Sample}
+use Rattle.command_words.specs.declared.job.Job.TheVariants.{Inspect, Trace, Sample}
 use Rattle.command_words.specs.Texts.{is_name, number_in}
 use Rattle.command_words.specs.Options.{options, AnOption}
 use Rattle.command_words.specs.Tables.{record_option, no_record_option, recording, replay_option, no_replay_option, replaying}

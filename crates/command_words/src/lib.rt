@@ -41,6 +41,5 @@ pub fn read_words(words: &[String]) -> Result<Job, Usage>
 pub fn free_words(words: &[String]) -> bool
     ensures { result ≡ asks_free_run (texts words.now) }
 {
-    let _ = words;
     false
 }

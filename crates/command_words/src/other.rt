@@ -38,7 +38,9 @@ pub(crate) fn sample_words(words: &[String]) -> Result<Job, Usage>
     match number_in(0, 4_294_967_295, word) {
         None => Err(Usage { place: 1 }),
         Some(_) if !rest.is_empty() => Err(Usage { place: 2 }),
-        Some(number) => Ok(Job::Sample { number: number as u32 }),
+        Some(number) => Ok(Job::Sample {
+            number: number as u32,
+        }),
     }
 }
 
@@ -69,7 +71,13 @@ fn moves_words(words: &[String]) -> Result<Job, Usage>
     if !rest.is_empty() {
         return Err(Usage { place: 6 });
     }
-    Ok(Job::Trace { image: 1, log: 2, hart: hart as u8, from, to })
+    Ok(Job::Trace {
+        image: 1,
+        log: 2,
+        hart: hart as u8,
+        from,
+        to,
+    })
 }
 
 /// The job of the words behind `trace`.

@@ -39,25 +39,67 @@ fn record_option(
     match option.as_str() {
         "--harts" => {
             let harts = number_behind(given.harts.is_some(), place, words, 1, 8)?;
-            Ok((RecordOptions { harts: Some(harts as u8), ..given }, true))
+            Ok((
+                RecordOptions {
+                    harts: Some(harts as u8),
+                    ..given
+                },
+                true,
+            ))
         }
         "--pages" => {
             let pages = number_behind(given.pages.is_some(), place, words, 1, 4096)?;
-            Ok((RecordOptions { pages: Some(pages as u16), ..given }, true))
+            Ok((
+                RecordOptions {
+                    pages: Some(pages as u16),
+                    ..given
+                },
+                true,
+            ))
         }
         "--limit" => {
             let limit = number_behind(given.limit.is_some(), place, words, 0, 1_000_000_000_000)?;
-            Ok((RecordOptions { limit: Some(limit), ..given }, true))
+            Ok((
+                RecordOptions {
+                    limit: Some(limit),
+                    ..given
+                },
+                true,
+            ))
         }
         "--log-limit" => {
-            let log_limit = number_behind(given.log_limit.is_some(), place, words, 1024, 536_870_912)?;
-            Ok((RecordOptions { log_limit: Some(log_limit), ..given }, true))
+            let log_limit = number_behind(
+                given.log_limit.is_some(),
+                place,
+                words,
+                1024,
+                536_870_912,
+            )?;
+            Ok((
+                RecordOptions {
+                    log_limit: Some(log_limit),
+                    ..given
+                },
+                true,
+            ))
         }
         "--dump" => {
             let dump = name_behind(given.dump.is_some(), place, words, image, log)?;
-            Ok((RecordOptions { dump: Some(dump), ..given }, true))
+            Ok((
+                RecordOptions {
+                    dump: Some(dump),
+                    ..given
+                },
+                true,
+            ))
         }
-        "--rounds" if !given.rounds => Ok((RecordOptions { rounds: true, ..given }, false)),
+        "--rounds" if !given.rounds => Ok((
+            RecordOptions {
+                rounds: true,
+                ..given
+            },
+            false,
+        )),
         _ => Err(Usage { place }),
     }
 }

@@ -34,10 +34,28 @@ fn replay_option(
     match option.as_str() {
         "--dump" => {
             let dump = name_behind(given.dump.is_some(), place, words, image, log)?;
-            Ok((ReplayOptions { dump: Some(dump), ..given }, true))
+            Ok((
+                ReplayOptions {
+                    dump: Some(dump),
+                    ..given
+                },
+                true,
+            ))
         }
-        "--one" if given.way.is_none() => Ok((ReplayOptions { way: Some(Way::One), ..given }, false)),
-        "--rounds" if given.way.is_none() => Ok((ReplayOptions { way: Some(Way::Rounds), ..given }, false)),
+        "--one" if given.way.is_none() => Ok((
+            ReplayOptions {
+                way: Some(Way::One),
+                ..given
+            },
+            false,
+        )),
+        "--rounds" if given.way.is_none() => Ok((
+            ReplayOptions {
+                way: Some(Way::Rounds),
+                ..given
+            },
+            false,
+        )),
         _ => Err(Usage { place }),
     }
 }
@@ -46,7 +64,10 @@ fn replay_options(words: &[String], image: &String, log: &String) -> Result<Repl
     ensures reads { let names = string_bytes image.now ∷ string_bytes log.now ∷ [] in MatchResult result (λ given. options replay_option names (AnOption no_replay_option) 3 (texts words.now) ≡ Ok given) (λ u. options replay_option names (AnOption no_replay_option) 3 (texts words.now) ≡ Err u.place) }
     ensures dump { IfOk result (λ given. IsBelow (3 + length words.now) given.dump) }
 {
-    let mut given = ReplayOptions { dump: None, way: None };
+    let mut given = ReplayOptions {
+        dump: None,
+        way: None,
+    };
     let mut place = 3;
     let mut rest = words;
     while let [option, tail @ ..] = rest {

@@ -6,7 +6,13 @@ use crate::Usage;
 use crate::word::{is_third_name, number_in};
 
 /// The number of an option at `place`, `again` where the option was given before.
-pub(crate) fn number_behind(again: bool, place: u64, words: &[String], least: u64, greatest: u64) -> Result<u64, Usage>
+pub(crate) fn number_behind(
+    again: bool,
+    place: u64,
+    words: &[String],
+    least: u64,
+    greatest: u64,
+) -> Result<u64, Usage>
     requires { place < 2 ^ 63 }
     ensures value { MatchResult result (λ n. number_behind again place (texts words.now) least greatest ≡ Ok n) (λ u. number_behind again place (texts words.now) least greatest ≡ Err u.place) }
     ensures range { IfOk result (λ n. (least ≤ n) × (n ≤ greatest)) }
@@ -24,7 +30,13 @@ pub(crate) fn number_behind(again: bool, place: u64, words: &[String], least: u6
 }
 
 /// The place of the file's name behind an option at `place`, `again` where the option was given before.
-pub(crate) fn name_behind(again: bool, place: u64, words: &[String], image: &String, log: &String) -> Result<u64, Usage>
+pub(crate) fn name_behind(
+    again: bool,
+    place: u64,
+    words: &[String],
+    image: &String,
+    log: &String,
+) -> Result<u64, Usage>
     requires { place < 2 ^ 63 }
     ensures value { MatchResult result (λ n. name_behind again place (texts words.now) (string_bytes image.now ∷ string_bytes log.now ∷ []) ≡ Ok n) (λ u. name_behind again place (texts words.now) (string_bytes image.now ∷ string_bytes log.now ∷ []) ≡ Err u.place) }
     ensures there { IfOk result (λ n. n < place + 1 + length words.now) }

@@ -1,6 +1,6 @@
-use Rattle.std.proofs.Common.{rules, ◌≡◌, [], ◌∷◌, string_bytes, Ok, Err, Some, None, is_some, arith}
+use Rattle.std.proofs.Common.{rules, ◌≡◌, [], ◌∷◌, string_bytes, Some}
 use Rattle.command_words.specs.Texts.{texts}
-use Rattle.command_words.specs.Options.{options, AnOption, ANumber, AName, once}
+use Rattle.command_words.specs.Options.{ANumber, AName, once}
 use Rattle.command_words.specs.Tables.{record_option}
 use Rattle.command_words.proofs.Refused.{number_refused, name_refused}
 use Rattle.command_words.proofs.record.record_option.Goals as goal

@@ -1,4 +1,4 @@
-use Rattle.std.proofs.Common.{◌≡◌, ℕ, ◌+◌, [], ◌∷◌, length, string_bytes}
+use Rattle.std.proofs.Common.{◌≡◌, ◌+◌, [], ◌∷◌, length, string_bytes}
 use Rattle.command_words.specs.Texts.{texts}
 use Rattle.command_words.specs.Options.{options, AnOption}
 use Rattle.command_words.specs.Tables.{record_option, no_record_option}
@@ -11,7 +11,8 @@ invariant-loop-rest l = record {
   reads : options record_option (string_bytes l.image ∷ string_bytes l.log ∷ []) (AnOption no_record_option) 3 (texts l.words) ≡ options record_option (string_bytes l.image ∷ string_bytes l.log ∷ []) (AnOption l.given) l.place (texts l.rest);
   place : l.place + length l.rest ≡ 3 + length l.words;
   dump : IsBelow (3 + length l.words) l.given.dump;
-  ranges : AreInRange l.given }
+  ranges : AreInRange l.given;
+}
 
 abbrev pub decreases-loop-rest : goal.decreases-loop-rest
 decreases-loop-rest l = length l.rest

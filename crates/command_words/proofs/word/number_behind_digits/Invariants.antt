@@ -6,4 +6,5 @@ use Rattle.command_words.proofs.word.number_behind_digits.Given as goal
 abbrev pub invariant-loop-digit : goal.invariant-loop-digit
 invariant-loop-digit l = record {
   rest : number_behind_digits l.start l.digits ≡ number_behind_digits l.number (drop l.digit-index l.digits);
-  small : l.number < 10 ^ (l.digit-index + 1) }
+  small : l.number < 10 ^ (l.digit-index + 1);
+}
