@@ -10,4 +10,5 @@ mod results;
 
 pub use act::Act;
 pub use machine::Flat;
+pub use ram::Ram;
 pub use results::{Bytes, Counts, Final, Harts, Memory, Step, Steps};
