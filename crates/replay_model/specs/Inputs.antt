@@ -11,6 +11,7 @@ use Rattle.device_board.specs.Recording.{input_of}
 use Rattle.orders_law.specs.Orders.{below}
 use Rattle.order_rules.specs.Places.{entries}
 use Rattle.order_rules.specs.Rules.{with_ordinal}
+use Rattle.replay_model.specs.Flat.{Flat}
 
 -- the input of a load of RX
 abbrev pub console_input : Entry → Option Input
@@ -27,8 +28,8 @@ abbrev pub times_from : ℕ → List ℕ → List ℕ
 times_from time [] = []
 times_from time (answer ∷ answers) = max answer time ∷ times_from (max answer time) answers
 
--- the answers of console and clock, and the bytes that the console took, are those of the log and the final state
-pub record Agree (log : Log) (sent : List ℕ) (asked : List Asked) (times : List ℕ) (took : List ℕ) : Type 0 where
+-- a log that leads to a flat state agrees with what console and clock answered, and with the bytes that the console took
+pub record Agree {S V : Type 0} (flat : Flat S V) (log : Log) (end : S) (asked : List Asked) (times : List ℕ) (took : List ℕ) : Type 0 where
   pub console : map input_of asked ≡ filter_map console_input (by_ordinal log)
   pub clock : times_from 0 times ≡ filter_map time_of (by_ordinal log)
-  pub bytes : took ≡ sent
+  pub bytes : took ≡ flat.sent end

@@ -1,12 +1,18 @@
--- What the holders of a replay are.
+-- Laws of replays.
 use Rattle.std.specs.Prelude.{ℕ, ◌≡◌, ◌+◌, ◌<◌, List, length, slice_get, slice_index, slice_set, Some}
 use Rattle.log_entry.specs.declared.log.Entry.{Entry}
 use Rattle.log_entry.specs.declared.log.Log.{Log}
 use Rattle.log_entry.specs.Parts.{page_number, holds_then}
 use Rattle.order_rules.specs.Places.{entry_at}
+use Rattle.flat_machine.specs.State.{FlatState}
+use Rattle.flat_machine.specs.Runs.{run_from}
 use Rattle.order_rules.specs.Rules as rules
 use Rattle.order_rules.specs.Orderly.{Keeps, o5, o6}
+use Rattle.replay_model.specs.Board.{board}
 use Rattle.replay_model.specs.Holders.{Holders, row, held, with_held, IsCrew}
+use Rattle.replay_model.specs.State.{Replay}
+use Rattle.replay_model.specs.Items.{Obeys}
+use Rattle.replay_model.specs.Acts.{acts_of}
 
 -- each hart holds of each page what it holds in the log before the page's next number
 abbrev pub Follow : Log → Holders → List ℕ → Type 0
@@ -21,3 +27,7 @@ StillFollow = (log : Log) (holders : Holders) (numbers : List ℕ) (h i page k :
 -- and they are CREW, in a log that keeps O6
 abbrev pub FollowIsCrew : Type 0
 FollowIsCrew = (log : Log) (holders : Holders) (numbers : List ℕ) → Keeps log o6 → Follow log holders numbers → IsCrew holders
+
+-- an order that obeys the log drives the flat machine, by the acts of its items, to the flat state to which it leads
+abbrev pub OrdersDrive : Type 0
+OrdersDrive = (log : Log) (s t : Replay FlatState) (order : List ℕ) → Obeys board log s order t → run_from s.flat (acts_of board log s order) ≡ Some t.flat

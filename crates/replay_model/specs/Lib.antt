@@ -3,6 +3,7 @@ pub mod Board
 pub mod Holders
 pub mod State
 pub mod Items
+pub mod Acts
 pub mod Outcome
 pub mod Journal
 pub mod Inputs

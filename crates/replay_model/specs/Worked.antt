@@ -93,9 +93,13 @@ ended counts stopped time = record { counts = counts; stopped = stopped; time = 
 abbrev pub race_journal : List (ℕ × ℕ)
 race_journal = (0, 2) ∷ (1, 2) ∷ (0, 2) ∷ (1, 2) ∷ (0, 2) ∷ (1, 3) ∷ (0, 1) ∷ (0, 6) ∷ (1, 1) ∷ (1, 5) ∷ []
 
--- a hart that loads three console inputs and then stores
-abbrev pub input_log : Log
-input_log = log_of 1 100 Stop ((e.Poll 0 0 5 0 ∷ gain 0 0 0 Read [] ∷ e.Touch 1 1 Empty ∷ e.Touch 2 2 (Byte 65) ∷ e.Touch 3 3 Empty ∷ e.Touch 4 4 Nothing ∷ e.End 5 ∷ []) ∷ [])
+-- a hart that loads three console inputs, sends a byte, and then stores to STOP
+abbrev pub echo_log : Log
+echo_log = log_of 1 100 Stop ((e.Poll 0 0 5 0 ∷ gain 0 0 0 Read [] ∷ e.Touch 1 1 Empty ∷ e.Touch 2 2 (Byte 65) ∷ e.Touch 3 3 Empty ∷ e.Touch 4 4 Nothing ∷ e.Touch 5 5 Nothing ∷ e.End 6 ∷ []) ∷ [])
+
+-- a machine that has sent the byte 65 once hart 0 has made five moves
+abbrev pub echoing : Flat Scripted ℕ
+echoing = record (scripted code_page never) { sent = λ s. if nat_lt 4 (slice_index s.counts 0) then 65 ∷ [] else [] }
 
 pub record AreReplayed : Type 0 where
   pub smallest : IsOutcome stopping (stop_log Stop 5 0 0 Read 2 Nothing 3) (first 1) (Done (ended (3 ∷ []) true 5))
@@ -110,4 +114,4 @@ pub record AreReplayed : Type 0 where
   pub race : IsOutcome racing race_log (first 2) (Done (ended (8 ∷ 8 ∷ []) false 5))
   pub journal : (t : Replay Scripted) × IsFullOrder racing race_log (start race_log (first 2)) (order_of race_journal) t
   pub lean : IsLean racing race_log (start race_log (first 2)) (order_of race_journal)
-  pub inputs : Agree input_log [] (asked.Nothing ∷ asked.Byte 65 ∷ asked.End ∷ []) (5 ∷ []) []
+  pub inputs : Agree echoing echo_log (ended (6 ∷ []) true 5) (asked.Nothing ∷ asked.Byte 65 ∷ asked.End ∷ []) (5 ∷ []) (65 ∷ [])
