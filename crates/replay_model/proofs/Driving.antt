@@ -19,7 +19,7 @@ use Rattle.replay_model.specs.Items.{Item, Ended, Move, Makes, Verdict, HasEnded
 use Rattle.replay_model.specs.Acts.{acts_of_item, acts_of, run_along}
 use Rattle.replay_model.specs.Laws.{OrdersDrive}
 
-mapped : {A B : Type 0} (f : A → B) (o : Option A) (b : B) → option_map f o ≡ Some b → (a : A) × (o ≡ Some a) × (f a ≡ b)
+pub mapped : {A B : Type 0} (f : A → B) (o : Option A) (b : B) → option_map f o ≡ Some b → (a : A) × (o ≡ Some a) × (f a ≡ b)
 mapped f None b e = absurd (none-some _ e)
 mapped f (Some a) b e = (a, refl, same_Some _ _ e)
 
@@ -56,14 +56,14 @@ module _ {S V : Type 0} (flat : Flat S V) where
   one_entry s m h (entries.Touch count ord input) is = one_act s m (Touch h input) is
   one_entry s m h (entries.End count) is = absurd (none-some _ is)
 
-  one_item : (s m : Replay S) (h : ℕ) (item : Item) → made flat s h item ≡ Some m → run_along flat s.flat (acts_of_item flat s h item) ≡ Some m.flat
+  pub one_item : (s m : Replay S) (h : ℕ) (item : Item) → made flat s h item ≡ Some m → run_along flat s.flat (acts_of_item flat s h item) ≡ Some m.flat
   one_item s m h Ended is = absurd (none-some _ is)
   one_item s m h Move is = one_act s m (Run h) is
   one_item s m h (Makes e) is =
       let a = mapped (past flat h e) (effect flat s h e) m is in
       one_entry s a.0 h e a.1 ∙ ap (λ (x : Replay S). Some x.flat) a.2
 
-  went : (s m : Replay S) (h : ℕ) (item : Item) (v : Verdict) (w : Option V) → goes flat s h item v ≡ Some (m, w) → made flat s h item ≡ Some m
+  pub went : (s m : Replay S) (h : ℕ) (item : Item) (v : Verdict) (w : Option V) → goes flat s h item v ≡ Some (m, w) → made flat s h item ≡ Some m
   went s m h item CanGo w is =
       let a = mapped (λ (t : Replay S). (t, told_of flat s h item t)) (made flat s h item) (m, w) is in
       a.1 ∙ ap (λ (x : Replay S × Option V). Some x.0) a.2
@@ -81,7 +81,7 @@ module _ {S V : Type 0} (flat : Flat S V) where
       ∙ ap (option_and_then (λ u. run_along flat u (acts_of flat log is.0 order))) (one_item s is.0 x.0 (next_item flat log s x.0) (went s is.0 x.0 (next_item flat log s x.0) (verdict_on flat s x.0 (next_item flat log s x.0)) x.1 is.1))
       ∙ leads_along log is.0 t made is.2
 
-board_runs : (s : FlatState) (acts : List Act) → run_from s acts ≡ run_along board s acts
+pub board_runs : (s : FlatState) (acts : List Act) → run_from s acts ≡ run_along board s acts
 board_runs s [] = refl
 board_runs s (act ∷ acts) = then_same (λ t. run_from t acts) (λ t. run_along board t acts) (λ t. board_runs t acts) (next act s)
 

@@ -1,5 +1,9 @@
 use Rattle.replay_model.proofs.Driving.{orders_drive}
+use Rattle.replay_model.proofs.Telling.{orders_tell}
 use Rattle.replay_model.proofs.orders_drive.Goals as goal
 
-pub returns : goal.returns
-returns c = orders_drive
+pub returns-clause-acts : goal.returns-clause-acts
+returns-clause-acts c = orders_drive
+
+pub returns-clause-story : goal.returns-clause-story
+returns-clause-story c = orders_tell
