@@ -1,0 +1,84 @@
+//! What each hart holds of one page.
+
+ghost use Rattle.std.specs.Prelude.{◌≡◌, ◌==◌, ◌&&◌, ◌<◌, ◌≤◌, not, find, length, replicate, slice_get, slice_set, unwrap_or, None, Some, IfOk};
+ghost use Rattle.std.specs.List.{range_with_len};
+ghost use Rattle.log_entry.specs.Parts.{strength, conflict};
+
+use rv_words::Mode;
+use shared_types::NoMemory;
+use std::alloc::Global;
+use std::marker::Model;
+
+/// How much a hold is worth: nothing, Read, Write.
+pub(crate) fn strength(hold: Option<Mode>) -> u8
+    ensures { result ≡ strength hold }
+{
+    match hold {
+        None => 0,
+        Some(Mode::Read) => 1,
+        Some(Mode::Write) => 2,
+    }
+}
+
+fn conflict(mode: Mode, hold: Option<Mode>) -> bool
+    ensures { result ≡ conflict (Some mode) hold }
+{
+    match hold {
+        Some(other) => mode.conflicts_with(other),
+        None => false,
+    }
+}
+
+/// What each hart holds of one page.
+#[derive(Drop)]
+pub(crate) struct Row {
+    holds: Vec<Option<Mode>>,
+}
+
+impl Model for Row {
+    ghost use Rattle.std.specs.Prelude.{List, Option};
+    ghost use Rattle.rv_words.specs.declared.shared.Mode.{Mode};
+
+    ghost Value = { List (Option Mode) };
+
+    ghost view = { λ r. r.holds.items };
+}
+
+impl Row {
+    pub(crate) fn nobody(alloc: Global, harts: u8) -> Result<Row, NoMemory>
+        ensures { IfOk result (λ r. r ≡ replicate harts None) }
+    {
+        match Vec::from_elem(alloc, None, usize::from(harts)) {
+            Ok(holds) => Ok(Row { holds }),
+            Err(_) => Err(NoMemory),
+        }
+    }
+
+    pub(crate) fn hold(&self, hart: u8) -> Option<Mode>
+        requires { hart < length self.now }
+        ensures { result ≡ unwrap_or (slice_get self.now hart) None }
+    {
+        self.holds[hart as usize]
+    }
+
+    pub(crate) fn set(&mut self, hart: u8, hold: Option<Mode>)
+        requires { hart < length self.old }
+        ensures { self.new ≡ slice_set self.old hart hold }
+    {
+        self.holds[hart as usize] = hold;
+    }
+
+    /// The least other hart whose hold conflicts with the mode.
+    pub(crate) fn clash(&self, hart: u8, mode: Mode) -> Option<u8>
+        requires { length self.now ≤ 255 }
+        ensures { result ≡ find (λ g. not (g == hart) && conflict (Some mode) (unwrap_or (slice_get self.now g) None)) (range_with_len 0 (length self.now)) }
+    {
+        let harts = self.holds.len() as u8;
+        for other in 0..harts {
+            if other != hart && conflict(mode, self.hold(other)) {
+                return Some(other);
+            }
+        }
+        None
+    }
+}
