@@ -1,0 +1,4 @@
+pub mod Below
+pub mod Lift
+pub mod Steps
+pub mod Kept

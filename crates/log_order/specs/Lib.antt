@@ -1,0 +1,3 @@
+pub mod InStream
+pub mod Refusal
+pub mod Legs
