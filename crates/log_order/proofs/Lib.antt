@@ -2,3 +2,5 @@ pub mod Below
 pub mod Lift
 pub mod Steps
 pub mod Kept
+pub mod Lists
+pub mod Due

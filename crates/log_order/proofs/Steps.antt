@@ -58,7 +58,7 @@ pub record At (s : List Entry) (k : ℕ) : Type 0 where
   pub got : slice_get s k ≡ Some entry
   pub same : get_or s k entry ≡ entry
 
-at_place : (s : List Entry) (k : ℕ) → k < length s → At s k
+pub at_place : (s : List Entry) (k : ℕ) → k < length s → At s k
 at_place s k lt = elim ((slice_get_cases s k).1) [
   | inl h ↦ record { entry = h.0; got = h.2; same = h.3 }
   | inr h ↦ absurd (let past = h.0 in omega (arith, past, lt))
@@ -74,7 +74,7 @@ rises s n k p x f e =
 front : (s : List Entry) (k : ℕ) (q : At s k) → k < length s → take (suc k) s ≡ take k s ++ (q.entry ∷ [])
 front s k q lt = take-suc s k q.entry lt ∙ ap (λ (z : Entry). take k s ++ (z ∷ [])) q.same
 
-lower : (s : List Entry) → NoFall s → (k : ℕ) (p : Entry) → slice_get s k ≡ Some p → list_all (λ y. nat_le (count_of y) (count_of p)) (take k s) ≡ true
+pub lower : (s : List Entry) → NoFall s → (k : ℕ) (p : Entry) → slice_get s k ≡ Some p → list_all (λ y. nat_le (count_of y) (count_of p)) (take k s) ≡ true
 lower [] n k p f = absurd (let lt = slice_get_within [] k p f in omega (arith, lt))
 lower (x ∷ s) n zero p f = refl
 lower (x ∷ s) n (suc k) p f =

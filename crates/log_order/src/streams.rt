@@ -1,9 +1,13 @@
 //! The rules that a stream keeps by itself.
-ghost use Rattle.std.specs.Prelude.{◌≡◌, ◌+◌, ◌<◌, ◌≤◌, ◌||◌, length};
+ghost use Rattle.std.specs.Prelude.{◌≡◌, ◌+◌, ◌^◌, ◌<◌, ◌≤◌, ◌||◌, true, length};
 ghost use Rattle.log_entry.specs.Parts.{count_of, is_end as is_end_entry, is_touch as is_touch_entry, is_poll as is_poll_entry};
-ghost use Rattle.log_order.specs.InStream.{o1_in, o2_in, falls as falls_in, steps_wrongly as steps_wrongly_in, NoFall, IsFirst};
+ghost use Rattle.order_rules.specs.Rules.{end_count as end_count_of};
+ghost use Rattle.log_order.specs.InStream.{o1_in, o2_in, o3_in, falls as falls_in, steps_wrongly as steps_wrongly_in, may_poll_in, polls_wrongly as polls_wrongly_in, due_after, NoFall, IsFirst};
 
 use log_entry::Entry;
+
+/// The distance of polls.
+const POLLS: u64 = 4096;
 
 fn count(e: &Entry) -> u64
     ensures { result ≡ count_of e.now }
@@ -93,6 +97,56 @@ pub(crate) fn first_o2(s: &[Entry]) -> Option<usize>
         if steps_wrongly(s, i) {
             return Some(i);
         }
+    }
+    None
+}
+
+/// The count at which a stream ends.
+fn end_count(s: &[Entry]) -> u64
+    ensures { result ≡ end_count_of s.now }
+{
+    match s.last() {
+        Some(e) => count(e),
+        None => 0,
+    }
+}
+
+fn may_poll(limit: u64, end: u64, at: u64) -> bool
+    ensures { result ≡ may_poll_in limit end at }
+{
+    at % POLLS == 0 && (at < end || (at == end && at < limit))
+}
+
+fn polls_wrongly(limit: u64, end: u64, due: u64, e: &Entry) -> bool
+    ensures { result ≡ polls_wrongly_in limit end due e.now }
+{
+    due < count(e) || (is_poll(e) && !may_poll(limit, end, count(e)))
+}
+
+fn next_due(due: u64, e: &Entry) -> u64
+    requires { due < 2 ^ 63 }
+    ensures { result ≡ due_after due e.now }
+{
+    if is_poll(e) && count(e) == due {
+        due + POLLS
+    } else {
+        due
+    }
+}
+
+/// The first place of a stream that breaks O3, where counts don't fall.
+pub(crate) fn first_o3(limit: u64, s: &[Entry]) -> Option<usize>
+    requires order { NoFall s.now }
+    requires bound { end_count_of s.now < 2 ^ 62 }
+    ensures { IsFirst (o3_in limit s.now) (length s.now) result }
+{
+    let end = end_count(s);
+    let mut due = 0;
+    for i in 0..s.len() {
+        if polls_wrongly(limit, end, due, &s[i]) {
+            return Some(i);
+        }
+        due = next_due(due, &s[i]);
     }
     None
 }

@@ -2,7 +2,7 @@ use Rattle.std.proofs.Common.{◌≡◌, length, Some, None, ap, refl, arith}
 use Rattle.order_rules.specs.Orderly.{o2}
 use Rattle.log_order.specs.InStream.{o2_in}
 use Rattle.log_order.proofs.Lift.{reading, found_at, none_at, none_left}
-use Rattle.log_order.proofs.Kept.{no_fall, widen}
+use Rattle.log_order.proofs.Kept.{no_fall, widen, o2_past}
 use Rattle.log_order.proofs.spots.least_o2.Goals as goal
 
 pub returns-in-Some : goal.returns-in-Some
@@ -10,14 +10,14 @@ returns-in-Some c =
     let log = c.args.l.now in
     found_at log (o2 log) o2_in (λ p. refl) c.loop-h.h c.items.result.now c.in-Some.i
     (reading log.streams c.items-streams.result.now c.loop-h.h c.index-streams-h.result c.items.result.now c.items-streams.ensures c.loop-h-test.true c.index-streams-h.is c.items.ensures)
-    (widen c.items.result.now (Some c.in-Some.i) c.in-Some.ensures) c.loop-h.invariant
+    (widen (o2_in c.items.result.now) (length c.items.result.now) (o2_past c.items.result.now) (Some c.in-Some.i) c.in-Some.ensures) c.loop-h.invariant
 
 pub loop-h-preserved : goal.loop-h-preserved
 loop-h-preserved c =
     let log = c.args.l.now in
     none_at log (o2 log) o2_in (λ p. refl) c.loop-h.h c.items.result.now
     (reading log.streams c.items-streams.result.now c.loop-h.h c.index-streams-h.result c.items.result.now c.items-streams.ensures c.loop-h-test.true c.index-streams-h.is c.items.ensures)
-    (widen c.items.result.now None c.in_default.ensures) c.loop-h.invariant
+    (widen (o2_in c.items.result.now) (length c.items.result.now) (o2_past c.items.result.now) None c.in_default.ensures) c.loop-h.invariant
 
 pub returns : goal.returns
 returns c =
