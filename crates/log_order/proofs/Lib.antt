@@ -4,3 +4,4 @@ pub mod Steps
 pub mod Kept
 pub mod Lists
 pub mod Due
+pub mod Earlier
