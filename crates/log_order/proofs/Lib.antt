@@ -5,3 +5,4 @@ pub mod Kept
 pub mod Lists
 pub mod Due
 pub mod Earlier
+pub mod Counted

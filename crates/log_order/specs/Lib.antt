@@ -1,3 +1,4 @@
 pub mod InStream
 pub mod Refusal
 pub mod Legs
+pub mod Rows

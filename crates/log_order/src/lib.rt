@@ -1,8 +1,11 @@
 //! Which logs are orderly, and the least order of their entries.
 #![tactic(auto)]
 
+mod counts;
 mod order_error;
 mod orderly;
+mod row;
+mod series;
 mod spots;
 mod streams;
 
