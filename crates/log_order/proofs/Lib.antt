@@ -6,3 +6,4 @@ pub mod Lists
 pub mod Due
 pub mod Earlier
 pub mod Counted
+pub mod Filled

@@ -2,3 +2,4 @@ pub mod InStream
 pub mod Refusal
 pub mod Legs
 pub mod Rows
+pub mod Bounds

@@ -5,6 +5,7 @@ mod counts;
 mod order_error;
 mod orderly;
 mod row;
+mod rows;
 mod series;
 mod spots;
 mod streams;
