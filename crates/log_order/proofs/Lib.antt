@@ -7,3 +7,4 @@ pub mod Due
 pub mod Earlier
 pub mod Counted
 pub mod Filled
+pub mod Numbered
