@@ -3,3 +3,4 @@ pub mod Refusal
 pub mod Legs
 pub mod Rows
 pub mod Bounds
+pub mod Holding

@@ -2,6 +2,7 @@
 #![tactic(auto)]
 
 mod counts;
+mod holding;
 mod order_error;
 mod orderly;
 mod row;
