@@ -8,3 +8,4 @@ pub mod Earlier
 pub mod Counted
 pub mod Filled
 pub mod Numbered
+pub mod Best

@@ -4,3 +4,4 @@ pub mod Legs
 pub mod Rows
 pub mod Bounds
 pub mod Holding
+pub mod Least

@@ -3,6 +3,7 @@
 
 mod counts;
 mod holding;
+mod least;
 mod order_error;
 mod orderly;
 mod row;
