@@ -9,3 +9,4 @@ pub mod Counted
 pub mod Filled
 pub mod Numbered
 pub mod Best
+pub mod Held
