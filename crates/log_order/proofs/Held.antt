@@ -53,23 +53,20 @@ key_from_number e page k t = by (page_number e) refl
     by (Some n) is = is ∙ is_the_key n page k (n.0 == page) refl (sym (ap (λ o. is_number k (option_and_then (λ (x : ℕ × ℕ). if x.0 == page then Some x.1 else None) o)) is) ∙ t)
 
 -- the entry in a slot
-pub record Standing (log : Log) (page k : ℕ) (leg : Leg) : Type 0 where
-  pub entry : Entry
-  pub at : entry_at log leg.hart leg.entry ≡ Some entry
-  pub key : page_number entry ≡ Some (page, k)
-  pub numbered : numbered log page k ≡ Some (leg.hart, entry)
+pub record Standing (log : Log) (page k : ℕ) (leg : Leg) (e : Entry) : Type 0 where
+  pub key : page_number e ≡ Some (page, k)
+  pub numbered : numbered log page k ≡ Some (leg.hart, e)
   pub hart : leg.hart < length log.streams
 
 module _ (log : Log) (rows : List (List (Option Leg))) (filled : AreFilled Pages log (length log.streams) 0 rows) (keeps : Keeps log o5) where
-  pub stands_there : (page k : ℕ) (leg : Leg) → slot rows (page, k) ≡ Some leg → Standing log page k leg
-  stands_there page k leg is =
+  pub stands_there : (page k : ℕ) (leg : Leg) (e : Entry) → slot rows (page, k) ≡ Some leg → entry_at log leg.hart leg.entry ≡ Some e → Standing log page k leg e
+  stands_there page k leg e is at =
       let o = filled.only leg (page, k) is in
+      let key : page_number e ≡ Some (page, k) = ap page_number (same_Some e o.1.0 (sym at ∙ o.1.1)) ∙ o.1.2 in
       record {
-        entry = o.1.0;
-        at = o.1.1;
-        key = o.1.2;
-        numbered = numbers_name log leg.hart leg.entry page k o.1.0 keeps o.1.1 o.1.2;
-        hart = slice_get_within log.streams leg.hart (stream log leg.hart) (in_stream log leg.hart leg.entry o.1.0 o.1.1);
+        key = key;
+        numbered = numbers_name log leg.hart leg.entry page k e keeps at key;
+        hart = slice_get_within log.streams leg.hart (stream log leg.hart) (in_stream log leg.hart leg.entry e at);
       }
 
   pub in_slot : (p : Leg) (e : Entry) (page k : ℕ) → entry_at log p.hart p.entry ≡ Some e → page_number e ≡ Some (page, k) → slot rows (page, k) ≡ Some p

@@ -10,3 +10,4 @@ pub mod Filled
 pub mod Numbered
 pub mod Best
 pub mod Held
+pub mod Seen

@@ -6,6 +6,7 @@ mod holding;
 mod least;
 mod order_error;
 mod orderly;
+mod pages;
 mod row;
 mod rows;
 mod series;

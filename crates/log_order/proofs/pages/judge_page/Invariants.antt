@@ -1,0 +1,12 @@
+use Rattle.order_rules.specs.Orderly.{o6, o7}
+use Rattle.log_order.specs.declared.series.Series.TheVariants.{Pages}
+use Rattle.log_order.specs.Holding.{IsHeld}
+use Rattle.log_order.specs.Least.{IsNumberedBelow, IsLeastSoFar}
+use Rattle.log_order.proofs.pages.judge_page.Given as goal
+
+abbrev pub invariant-loop-number : goal.invariant-loop-number
+invariant-loop-number l = record {
+  held : IsHeld l.l l.page l.number l.holding;
+  holds : IsLeastSoFar l.l (o6 l.l) (IsNumberedBelow Pages l.l l.page l.number) l.least.holds;
+  waits : IsLeastSoFar l.l (o7 l.l) (IsNumberedBelow Pages l.l l.page l.number) l.least.waits;
+}
