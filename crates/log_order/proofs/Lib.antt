@@ -11,3 +11,5 @@ pub mod Numbered
 pub mod Best
 pub mod Held
 pub mod Seen
+pub mod Everywhere
+pub mod Timed

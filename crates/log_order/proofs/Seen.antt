@@ -1,7 +1,7 @@
 -- The entries of a row, seen one number after the other.
 use Rattle.std.proofs.Common.{◌≡◌, ℕ, zero, suc, ◌+◌, ◌<◌, ◌≤◌, Bool, true, false, List, [], ◌∷◌, length, get_or, Option, Some, None, refl, sym, ap, ◌∙◌, subst, inl, inr, ◌⊎◌, arith, eq-or-lt_of_le, le_of_suc-le-suc}
 use Rattle.std.specs.Prelude.{slice_get, option_and_then}
-use Rattle.std.proofs.lemmas.Option.{none-some, same_Some, slice_get_within, slice_get_past}
+use Rattle.std.proofs.lemmas.Option.{none-some, same_Some, slice_get_within, slice_get_past, slice_get_read, get_or_from_slice_get}
 use Rattle.std.proofs.lemmas.Bool.{cases_lt}
 use Rattle.log_entry.specs.declared.log.Entry.{Entry}
 use Rattle.log_entry.specs.declared.log.Log.{Log}
@@ -12,6 +12,13 @@ use Rattle.log_order.specs.declared.orderly.Leg.{Leg}
 use Rattle.log_order.specs.declared.series.Series.{Series}
 use Rattle.log_order.specs.Rows.{key_of, slot, slot_in, row_of, spot_of, AreFilled}
 use Rattle.log_order.specs.Least.{IsNumberedBelow}
+
+-- the row as code reads it
+pub row_is : (rows : List (List (Option Leg))) (page : ℕ) (row : List (Option Leg)) → page < length rows → row ≡ get_or rows page row → row_of rows page ≡ row
+row_is rows page row l is = get_or_from_slice_get rows page row [] (slice_get_read rows (length rows) page row refl l is)
+
+pub ended : (rows : List (List (Option Leg))) (page k size : ℕ) (row : List (Option Leg)) → row_of rows page ≡ row → size ≡ length row → k ≤ size → size ≤ k → length (row_of rows page) ≡ k
+ended rows page k size row is same a b = (let e = ap length is in omega (arith, e, same, a, b))
 
 pub none_at_first : (series : Series) (log : Log) (q : Spot) → IsNumberedBelow series log 0 0 q → ⊥
 none_at_first series log q seen = elim seen.1.3 [

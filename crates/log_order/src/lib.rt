@@ -12,6 +12,7 @@ mod rows;
 mod series;
 mod spots;
 mod streams;
+mod times;
 
 pub use order_error::OrderError;
 pub use orderly::{Leg, Orderly};

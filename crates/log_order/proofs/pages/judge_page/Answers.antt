@@ -9,15 +9,11 @@ use Rattle.log_order.specs.Holding.{Holding, held_then, holds_wrongly, waits_wro
 use Rattle.log_order.specs.declared.orderly.Leg.{Leg}
 use Rattle.log_order.specs.Least.{lesser, IsNumberedBelow, IsLeastSoFar}
 use Rattle.log_order.specs.Rows.{slot, slot_in, row_of, spot_of}
-use Rattle.std.proofs.lemmas.Option.{get_or_from_slice_get, slice_get_read}
 use Rattle.log_order.proofs.Best.{one_seen, same_seen}
 use Rattle.log_order.proofs.Held.{stands_there, nothing_there, held_next, o6_where, o7_where}
-use Rattle.log_order.proofs.Seen.{seen_next, seen_nothing, seen_row}
+use Rattle.log_order.proofs.Seen.{row_is, ended, seen_next, seen_nothing, seen_row}
 use Rattle.log_order.proofs.pages.judge_page.Goals as goal
 use Rattle.log_order.proofs.pages.judge_page.Goals.{in-None, in-Some+in_ok-least-in-Some}
-
-row_is : (rows : List (List (Option Leg))) (page : ℕ) (row : List (Option Leg)) → page < length rows → row ≡ get_or rows page row → row_of rows page ≡ row
-row_is rows page row l is = get_or_from_slice_get rows page row [] (slice_get_read rows (length rows) page row refl l is)
 
 pub entry_of-requires : goal.entry_of-requires
 entry_of-requires c =
@@ -71,9 +67,6 @@ loop-number-preserved c =
             waits = subst (λ b. IsLeastSoFar log (o7 log) (IsNumberedBelow Pages log page (k + 1)) b) (sym w.in_ok-least-in-Some.ensures.waits ∙ ap (λ b. b.waits) (sym w.least-is)) waits;
           }
     ]
-
-ended : (rows : List (List (Option Leg))) (page k size : ℕ) (row : List (Option Leg)) → row_of rows page ≡ row → size ≡ length row → k ≤ size → size ≤ k → length (row_of rows page) ≡ k
-ended rows page k size row is same a b = (let e = ap length is in omega (arith, e, same, a, b))
 
 pub returns-clause-holds : goal.returns-clause-holds
 returns-clause-holds c =
