@@ -5,3 +5,4 @@ pub mod Rows
 pub mod Bounds
 pub mod Holding
 pub mod Least
+pub mod Steps

@@ -2,6 +2,7 @@
 #![tactic(auto)]
 
 mod counts;
+mod cursor;
 mod holding;
 mod least;
 mod order_error;

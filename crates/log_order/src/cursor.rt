@@ -1,0 +1,78 @@
+//! How far a log has been taken, in the least order.
+ghost use Rattle.std.specs.Prelude.{◌≡◌, ◌<◌, ◌≤◌, ◌^◌, ◌==◌, ℕ, Some, None, length, slice_get, slice_index, is_some, IfOk, MatchOption};
+ghost use Rattle.log_entry.specs.declared.log.Entry.{Entry as AnEntry};
+ghost use Rattle.order_rules.specs.Places.{is_number};
+ghost use Rattle.order_rules.specs.Cursor.{start as start_of, first_left as first_left_of, guard_is_met as guard_of, counted as counted_of, take_one, least_left as least_left_of};
+ghost use Rattle.log_order.specs.Bounds.{IsSmall};
+ghost use Rattle.log_order.specs.Steps.{Goes};
+
+use crate::orderly::Leg;
+use log_entry::{Entry, Log};
+use std::alloc::{AllocError, Global};
+use std::marker::Model;
+
+/// The place in each stream, the next number of each page, and the next ordinal.
+#[derive(Debug, Drop)]
+pub(crate) struct Cursor {
+    places: Vec<usize>,
+    numbers: Vec<u64>,
+    ordinal: u64,
+}
+
+impl Model for Cursor {
+    ghost use Rattle.order_rules.specs.Cursor.{Cursor as CursorView};
+
+    ghost Value = { CursorView };
+
+    ghost view = { λ c. record { places = c.places.items; numbers = c.numbers.items; ordinal = c.ordinal } };
+}
+
+impl Cursor {
+    /// Nothing is taken.
+    pub(crate) fn start(alloc: Global, l: &Log) -> Result<Cursor, AllocError>
+        ensures { IfOk result (λ c. c ≡ start_of l.now) }
+    {
+        let places = vec![in alloc; 0; l.streams.items().len()]?;
+        let numbers = vec![in alloc; 0; l.pages as usize]?;
+        Ok(Cursor {
+            places,
+            numbers,
+            ordinal: 0,
+        })
+    }
+
+    fn is_next(&self, page: u32, seq: u32) -> bool
+        ensures { result ≡ is_number seq (slice_get self.now.numbers page) }
+    {
+        let page = page as usize;
+        page < self.numbers.len() && self.numbers[page] == seq as u64
+    }
+
+    fn guard_is_met(&self, e: &Entry) -> bool
+        ensures { result ≡ guard_of self.now e.now }
+    {
+        match e {
+            Entry::Gain { page, seq, .. } | Entry::Yield { page, seq, .. } => {
+                self.is_next(*page, *seq)
+            }
+            Entry::Poll { ord, .. } | Entry::Touch { ord, .. } => *ord as u64 == self.ordinal,
+            Entry::End { .. } => true,
+        }
+    }
+
+    /// The first entry of a hart that isn't taken.
+    fn first_left<'a>(&self, l: &'a Log, hart: usize) -> Option<&'a Entry>
+        requires { hart < length self.now.places }
+        ensures { MatchOption result (first_left_of l.now self.now hart ≡ None) (λ e. first_left_of l.now self.now hart ≡ Some e.now) }
+    {
+        let streams = l.streams.items();
+        if hart < streams.len() {
+            let s = streams[hart].items();
+            let place = self.places[hart];
+            if place < s.len() {
+                return Some(&s[place]);
+            }
+        }
+        None
+    }
+}
