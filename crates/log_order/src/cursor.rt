@@ -1,5 +1,5 @@
 //! How far a log has been taken, in the least order.
-ghost use Rattle.std.specs.Prelude.{◌≡◌, ◌<◌, ◌≤◌, ◌^◌, ◌==◌, ℕ, Some, None, length, slice_get, slice_index, is_some, IfOk, MatchOption};
+ghost use Rattle.std.specs.Prelude.{◌≡◌, ◌+◌, ◌<◌, ◌≤◌, ◌^◌, ◌==◌, ℕ, true, Some, None, length, slice_get, slice_index, is_some, IfOk, IfSome, MatchOption};
 ghost use Rattle.log_entry.specs.declared.log.Entry.{Entry as AnEntry};
 ghost use Rattle.order_rules.specs.Places.{is_number};
 ghost use Rattle.order_rules.specs.Cursor.{start as start_of, first_left as first_left_of, guard_is_met as guard_of, counted as counted_of, take_one, least_left as least_left_of};
@@ -63,7 +63,8 @@ impl Cursor {
     /// The first entry of a hart that isn't taken.
     fn first_left<'a>(&self, l: &'a Log, hart: usize) -> Option<&'a Entry>
         requires { hart < length self.now.places }
-        ensures { MatchOption result (first_left_of l.now self.now hart ≡ None) (λ e. first_left_of l.now self.now hart ≡ Some e.now) }
+        ensures entry { MatchOption result (first_left_of l.now self.now hart ≡ None) (λ e. first_left_of l.now self.now hart ≡ Some e.now) }
+        ensures room { IfSome result (λ _. slice_index self.now.places hart + 1 < 2 ^ 64) }
     {
         let streams = l.streams.items();
         if hart < streams.len() {
@@ -74,5 +75,45 @@ impl Cursor {
             }
         }
         None
+    }
+
+    /// Whether a hart can take its first entry left.
+    fn can_take(&self, l: &Log, hart: usize) -> bool
+        requires { hart < length self.now.places }
+        ensures { result ≡ is_some (take_one l.now hart self.now) }
+    {
+        match self.first_left(l, hart) {
+            Some(e) => self.guard_is_met(e),
+            None => false,
+        }
+    }
+
+    /// Counts an entry whose guard is met.
+    fn count(&mut self, e: &Entry)
+        requires { guard_of self.old e.now ≡ true }
+        ensures { self.new ≡ counted_of self.old e.now }
+    {
+        match e {
+            Entry::Gain { page, seq, .. } | Entry::Yield { page, seq, .. } => {
+                self.numbers[*page as usize] = *seq as u64 + 1;
+            }
+            Entry::Poll { ord, .. } | Entry::Touch { ord, .. } => self.ordinal = *ord as u64 + 1,
+            Entry::End { .. } => {}
+        }
+    }
+
+    /// A hart takes its first entry left, where it can.
+    fn take(&mut self, l: &Log, hart: usize) -> Option<usize>
+        requires { hart < length self.old.places }
+        ensures { MatchOption result ((take_one l.now hart self.old ≡ None) × (self.new ≡ self.old)) (λ place. take_one l.now hart self.old ≡ Some (self.new, place)) }
+    {
+        let e = self.first_left(l, hart)?;
+        if !self.guard_is_met(e) {
+            return None;
+        }
+        let place = self.places[hart];
+        self.count(e);
+        self.places[hart] = place + 1;
+        Some(place)
     }
 }
