@@ -13,3 +13,4 @@ pub mod Held
 pub mod Seen
 pub mod Everywhere
 pub mod Timed
+pub mod Taken

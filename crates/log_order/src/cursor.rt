@@ -4,7 +4,7 @@ ghost use Rattle.log_entry.specs.declared.log.Entry.{Entry as AnEntry};
 ghost use Rattle.order_rules.specs.Places.{is_number};
 ghost use Rattle.order_rules.specs.Cursor.{start as start_of, first_left as first_left_of, guard_is_met as guard_of, counted as counted_of, take_one, least_left as least_left_of};
 ghost use Rattle.log_order.specs.Bounds.{IsSmall};
-ghost use Rattle.log_order.specs.Steps.{Goes};
+ghost use Rattle.log_order.specs.Steps.{Goes, left};
 
 use crate::orderly::Leg;
 use log_entry::{Entry, Log};
@@ -77,17 +77,6 @@ impl Cursor {
         None
     }
 
-    /// Whether a hart can take its first entry left.
-    fn can_take(&self, l: &Log, hart: usize) -> bool
-        requires { hart < length self.now.places }
-        ensures { result ≡ is_some (take_one l.now hart self.now) }
-    {
-        match self.first_left(l, hart) {
-            Some(e) => self.guard_is_met(e),
-            None => false,
-        }
-    }
-
     /// Counts an entry whose guard is met.
     fn count(&mut self, e: &Entry)
         requires { guard_of self.old e.now ≡ true }
@@ -115,5 +104,51 @@ impl Cursor {
         self.count(e);
         self.places[hart] = place + 1;
         Some(place)
+    }
+
+    /// The least hart that can takes its first entry left; nothing where none can.
+    pub(crate) fn step(&mut self, l: &Log) -> Option<Leg>
+        requires small { IsSmall l.now }
+        requires places { length self.old.places ≡ length l.now.streams }
+        ensures goes { Goes l.now self.old result self.new }
+        ensures places { length self.new.places ≡ length l.now.streams }
+        ensures fewer { IfSome result (λ _. left l.now.streams self.new.places < left l.now.streams self.old.places) }
+    {
+        for hart in 0..l.streams.items().len() {
+            if let Some(place) = self.take(l, hart) {
+                return Some(Leg {
+                    hart: hart as u8,
+                    entry: place as u32,
+                });
+            }
+        }
+        None
+    }
+
+    fn has_left(&self, l: &Log, hart: usize) -> bool
+        requires { hart < length self.now.places }
+        ensures { result ≡ is_some (first_left_of l.now self.now hart) }
+    {
+        self.first_left(l, hart).is_some()
+    }
+
+    fn place(&self, hart: usize) -> usize
+        requires { hart < length self.now.places }
+        ensures { result ≡ slice_index self.now.places hart }
+    {
+        self.places[hart]
+    }
+
+    /// The least hart with an entry left, and the place of that entry.
+    pub(crate) fn least_left(&self, l: &Log) -> Option<(usize, usize)>
+        requires { length self.now.places ≡ length l.now.streams }
+        ensures { result ≡ least_left_of l.now self.now }
+    {
+        for hart in 0..l.streams.items().len() {
+            if self.has_left(l, hart) {
+                return Some((hart, self.place(hart)));
+            }
+        }
+        None
     }
 }
