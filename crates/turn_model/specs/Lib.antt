@@ -1,0 +1,9 @@
+pub mod Machine
+pub mod Board
+pub mod Claims
+pub mod Entering
+pub mod Steps
+pub mod Turn
+pub mod Lists
+pub mod Rounds
+pub mod Worked

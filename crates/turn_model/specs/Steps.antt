@@ -1,0 +1,161 @@
+-- The steps of a turn, in their order (docs/recorder.md).
+use Rattle.std.specs.Prelude.{ℕ, zero, suc, ◌+◌, ◌*◌, ◌/◌, ◌%◌, ◌==◌, ◌&&◌, ◌||◌, not, nat_lt, max, min, Bool, List, [], ◌∷◌, map, length, slice_index, slice_set, Option, Some, None, is_some, if◌then◌else◌}
+use Rattle.std.specs.Option.{option_map, option_and_then}
+use Rattle.rv_words.specs.declared.shared.Mode.{Mode}
+use Rattle.rv_words.specs.declared.shared.Input.{Input}
+use Rattle.rv_words.specs.declared.shared.Input.TheVariants.{Nothing}
+use Rattle.rv_words.specs.declared.shared.Cause.TheVariants as causes
+use Rattle.rv_words.specs.declared.shared.DeviceWord.{DeviceWord}
+use Rattle.rv_words.specs.declared.shared.DeviceWord.TheVariants.{TimeLow, TimeHigh, Rx, Tx}
+use Rattle.log_entry.specs.declared.log.Entry.{Entry}
+use Rattle.log_entry.specs.declared.log.Entry.TheVariants.{Gain, Yield, Poll, Touch}
+use Rattle.log_entry.specs.Parts.{conflict}
+use Rattle.outside.specs.declared.console.Asked.{Asked}
+use Rattle.outside.specs.declared.console.Asked.TheVariants as asked
+use Rattle.device_board.specs.Recording.{recorded_input}
+use Rattle.order_rules.specs.Rules.{has_poll, waits_due}
+use Rattle.replay_model.specs.Holders.{held}
+use Rattle.replay_model.specs.State.{Replay}
+use Rattle.replay_model.specs.Items.{Move, goes, verdict_on}
+use Rattle.replay_model.specs.Journal.{left_for}
+use Rattle.turn_model.specs.Machine.{Machine}
+use Rattle.turn_model.specs.Board.{Board, Go, Hold, Rest, Outside, Terms, harts, stream, wanted, closes, count, is_at_limit, log_of}
+use Rattle.turn_model.specs.Claims.{stands_before, holds_so, kept_by, needed, claims_against}
+use Rattle.turn_model.specs.Entering.{Way, On, Ends, Nowhere, on, with_room, entered}
+use Rattle.turn_model.specs.Entering as ways
+
+-- the favoured hart is the one after h
+abbrev pub passes_favour : {S : Type 0} → ℕ → Board S → Board S
+passes_favour h b = record b { favoured = (h + 1) % length b.streams }
+
+abbrev pub with_want : {S : Type 0} → ℕ → Option (ℕ × Mode) → Board S → Board S
+with_want h want b = record b { wants = slice_set b.wants h want }
+
+abbrev pub next_number : {S : Type 0} → Board S → ℕ → ℕ
+next_number b page = slice_index b.at.cursor.numbers page
+
+-- what the console answers an access, where what it has left covers this
+abbrev pub console_gives : DeviceWord → Option ℕ → Outside → Option (Asked × Outside)
+console_gives Rx None o = first o.answers where
+  first : List Asked → Option (Asked × Outside)
+  first [] = None
+  first (answer ∷ answers) = Some (answer, record o { answers = answers })
+console_gives Tx (Some v) o = one o.takes where
+  one : ℕ → Option (Asked × Outside)
+  one zero = None
+  one (suc takes) = Some (asked.Nothing, record o { takes = takes })
+console_gives word store o = Some (asked.Nothing, o)
+
+abbrev pub clock_answers : List ℕ → Outside → Option (ℕ × Outside)
+clock_answers [] o = None
+clock_answers (time ∷ times) o = Some (time, record o { times = times })
+
+-- what the clock answers an access: it is asked for a load of a half of mtime alone
+abbrev pub clock_gives : DeviceWord → Option ℕ → Outside → Option (ℕ × Outside)
+clock_gives TimeLow None o = clock_answers o.times o
+clock_gives TimeHigh None o = clock_answers o.times o
+clock_gives word store o = Some (0, o)
+
+-- the least multiple of 4,096, not below the count, that has no Poll yet: no greater one has
+abbrev pub next_poll : ℕ → List Entry → ℕ
+next_poll count entries = from ((count + 4095) / 4096 * 4096) where
+  from : ℕ → ℕ
+  from due = if has_poll entries due then due + 4096 else due
+
+module _ {S V : Type 0} (machine : Machine S V) (terms : Terms) where
+  -- so many Runs of a hart, that need only pages held so and touch no device
+  abbrev pub runs : ℕ → ℕ → Replay S → Option (Replay S)
+  runs h zero s = Some s
+  runs h (suc n) s = option_and_then (λ m. runs h n m.0) (goes machine.flat s h Move (verdict_on machine.flat s h Move))
+
+  -- the moves since the last turn are made; the favoured hart passes the favour on, where it made one or is at the limit; and
+  -- the stored want is cleared
+  abbrev pub commits : ℕ → ℕ → Board S → Option (Board S)
+  commits h n b = option_map (λ s. with_want h None (passes h n (record b { at = s }))) (runs h n b.at) where
+    passes : ℕ → ℕ → Board S → Board S
+    passes h n c = if (h == c.favoured) && (nat_lt 0 n || is_at_limit machine terms c h) then passes_favour h c else c
+
+  abbrev pub rests_where_closed : Board S → Way S
+  rests_where_closed b = if is_some b.closed || machine.flat.is_stopped b.at.flat then Ends Rest b else On b
+
+  abbrev pub rests_at_limit : ℕ → Board S → Way S
+  rests_at_limit h b = if is_at_limit machine terms b h then Ends Rest b else On b
+
+  abbrev pub is_due : ℕ → Board S → Bool
+  is_due h b = nat_lt (count machine terms b h) terms.limit && ((count machine terms b h % 4096 == 0) && not (has_poll (stream b h) (count machine terms b h)))
+
+  abbrev pub poll_at : ℕ → Board S → ℕ → Entry
+  poll_at h b time = Poll (count machine terms b h) b.at.cursor.ordinal time (machine.flat.lines_at b.at.flat h time)
+
+  -- a Poll that is due, at the greater of the clock's answer and mtime
+  abbrev pub polls : ℕ → Board S → Way S
+  polls h b = if is_due h b then with_room machine terms (poll_at h b 0) (λ c. asks h c (clock_answers c.outside.times c.outside)) b else On b where
+    asks : ℕ → Board S → Option (ℕ × Outside) → Way S
+    asks h c None = Nowhere
+    asks h c (Some (time, left)) = on (entered machine terms h (poll_at h c (max time (machine.flat.time c.at.flat))) (record c { outside = left }))
+
+  -- a page is yielded to a hart that wants it in a mode that conflicts with what is held, unless the holder claims it against
+  -- that mode and stands before
+  abbrev pub yields_to : ℕ → ℕ → Board S → Way S
+  yields_to h g b = if g == h then On b else offers (wanted b g) where
+    offers : Option (ℕ × Mode) → Way S
+    offers None = On b
+    offers (Some (page, mode)) =
+        if conflict (held b.at.holders page h) (Some mode) && not (claims_against machine terms b h page mode && stands_before b h g)
+        then with_room machine terms (yield_of page mode) (λ c. on (entered machine terms h (yield_of page mode) c)) b
+        else On b
+      where
+        yield_of : ℕ → Mode → Entry
+        yield_of page mode = Yield (count machine terms b h) page (next_number b page) (left_for mode)
+
+  abbrev pub yields : ℕ → Board S → Way S
+  yields h b = ways.goes (map (yields_to h) (harts b)) (On b)
+
+  abbrev pub gain_of : ℕ → ℕ × Mode → Board S → Entry
+  gain_of h n b = Gain (count machine terms b h) n.0 (next_number b n.0) n.1 (record { items = waits_due (log_of machine terms b) n.0 h (next_number b n.0); room = 0 })
+
+  -- a page that isn't held so is gained, or its want is stored where another hart keeps it
+  abbrev pub gains_page : ℕ → ℕ × Mode → Board S → Way S
+  gains_page h n b = if holds_so b h n then On b else tries (kept_by b h n) where
+    tries : Option ℕ → Way S
+    tries None = with_room machine terms (gain_of h n b) (λ c. on (entered machine terms h (gain_of h n c) c)) b
+    tries (Some g) = Ends (Hold n.0 g) (with_want h (Some n) b)
+
+  -- the fetch page comes first
+  abbrev pub gains : ℕ → Board S → Way S
+  gains h b = ways.goes (map (gains_page h) (needed machine terms b h)) (On b)
+
+  abbrev pub touch_of : ℕ → Board S → Input → Entry
+  touch_of h b input = Touch (count machine terms b h) b.at.cursor.ordinal input
+
+  -- a device access is made, with its input; a console that fails closes the board and a store to STOP does so too; else the
+  -- favoured hart passes the favour on
+  abbrev pub touches : ℕ → Board S → Way S
+  touches h b = accesses (machine.access b.at.flat h) where
+    after : Board S → Way S
+    after c = if machine.flat.is_stopped c.at.flat then Ends Rest (closes causes.Stop c) else On (if h == c.favoured then passes_favour h c else c)
+
+    touched : Option (Board S) → Way S
+    touched None = Nowhere
+    touched (Some c) = after c
+
+    times : DeviceWord → Option ℕ → Asked → Board S → Option (ℕ × Outside) → Way S
+    times word store answer c None = Nowhere
+    times word store answer c (Some (now, left)) =
+        touched (entered machine terms h (touch_of h c (recorded_input word store (machine.flat.time c.at.flat) now answer)) (record c { outside = left }))
+
+    answers : DeviceWord → Option ℕ → Board S → Option (Asked × Outside) → Way S
+    answers word store c None = Ends Rest (closes causes.Fault c)
+    answers word store c (Some (answer, left)) = times word store answer c (clock_gives word store left)
+
+    accesses : Option (DeviceWord × Option ℕ) → Way S
+    accesses None = On b
+    accesses (Some (word, store)) = with_room machine terms (touch_of h b Nothing) (λ c. answers word store c (console_gives word store c.outside)) b
+
+  -- up to the lesser of the limit and the next Poll that is due
+  abbrev pub goes_on : ℕ → Board S → Way S
+  goes_on h b = Ends (Go (min terms.limit (next_poll (count machine terms b h) (stream b h)))) b
+
+  -- what follows the moves, in this order
+  abbrev pub steps : ℕ → List (Board S → Way S)
+  steps h = rests_where_closed ∷ polls h ∷ yields h ∷ rests_at_limit h ∷ gains h ∷ touches h ∷ rests_at_limit h ∷ goes_on h ∷ []

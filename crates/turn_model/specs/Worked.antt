@@ -1,0 +1,91 @@
+-- Recordings that were worked out by hand, on machines whose harts do what a script says.
+use Rattle.std.specs.Prelude.{ℕ, zero, suc, ◌≡◌, ◌==◌, true, false, List, [], ◌∷◌, replicate, slice_index, Option, Some, None, if◌then◌else◌}
+use Rattle.std.specs.Option.{option_map}
+use Rattle.rv_words.specs.declared.shared.Mode.{Mode}
+use Rattle.rv_words.specs.declared.shared.Mode.TheVariants.{Read, Write}
+use Rattle.rv_words.specs.declared.shared.Input.TheVariants.{Nothing}
+use Rattle.rv_words.specs.declared.shared.Cause.TheVariants.{Stop, Limit, Full, Fault, Cut}
+use Rattle.rv_words.specs.declared.shared.DeviceWord.TheVariants as words
+use Rattle.log_entry.specs.declared.log.Entry.TheVariants as e
+use Rattle.log_entry.specs.declared.log.Log.{Log}
+use Rattle.order_rules.specs.Worked.{log_of, gain, from, race_log}
+use Rattle.replay_model.specs.Worked.{Scripted, first, ended, stopping, racing, stop_log, race_journal}
+use Rattle.turn_model.specs.Machine.{Machine}
+use Rattle.turn_model.specs.Board.{Outside, Terms, board_at_start}
+use Rattle.turn_model.specs.Lists.{Recorded, recorded_by_list}
+
+-- a hart that stores 7 to STOP in its third move
+abbrev pub stopping_machine : Machine Scripted ℕ
+stopping_machine = record { flat = stopping; access = λ s h. if slice_index s.counts h == 2 then Some (words.Stop, Some 7) else None }
+
+abbrev pub racing_machine : Machine Scripted ℕ
+racing_machine = record { flat = racing; access = λ s h. None }
+
+abbrev pub terms_of : ℕ → ℕ → ℕ → Terms
+terms_of pages limit log_limit = record { pages = pages; image = replicate 32 0; limit = limit; log_limit = log_limit }
+
+-- a hart that sends a byte in its third move
+abbrev pub sending_machine : Machine Scripted ℕ
+sending_machine = record { flat = stopping; access = λ s h. if slice_index s.counts h == 2 then Some (words.Tx, Some 65) else None }
+
+-- hart 0 stores in the page of the code in its fifth move
+abbrev pub writing_needs : ℕ → ℕ → List (ℕ × Mode)
+writing_needs zero (suc (suc (suc (suc zero)))) = (0, Read) ∷ (0, Write) ∷ []
+writing_needs h count = (0, Read) ∷ []
+
+abbrev pub writing_machine : Machine Scripted ℕ
+writing_machine = record { flat = record racing { need = λ s h. writing_needs h (slice_index s.counts h) }; access = λ s h. None }
+
+abbrev pub writing_list : List (ℕ × ℕ)
+writing_list = (0, 12) ∷ (1, 12) ∷ (0, 12) ∷ (1, 4) ∷ (0, 12) ∷ (0, 1) ∷ (1, 12) ∷ (1, 12) ∷ (0, 12) ∷ []
+
+abbrev pub writing_log : Log
+writing_log = log_of 1 12 Limit (
+    (e.Poll 0 0 5 0 ∷ gain 0 0 0 Read [] ∷ gain 4 0 3 Write (from 1 4 ∷ []) ∷ e.Yield 5 0 4 (Some Read) ∷ e.End 12 ∷ [])
+    ∷ (e.Poll 0 1 5 0 ∷ gain 0 0 1 Read [] ∷ e.Yield 4 0 2 None ∷ gain 4 0 5 Read (from 0 5 ∷ []) ∷ e.End 12 ∷ [])
+    ∷ [])
+
+-- a clock that answers 5 so many times
+abbrev pub fives : ℕ → Outside
+fives n = record { answers = []; takes = 0; times = replicate n 5 }
+
+abbrev pub by_list : Machine Scripted ℕ → Terms → ℕ → Outside → List (ℕ × ℕ) → Option (Recorded Scripted)
+by_list machine terms harts outside list = recorded_by_list machine terms list (board_at_start terms harts (first harts) outside)
+
+abbrev pub race_list : List (ℕ × ℕ)
+race_list = (0, 8) ∷ (1, 8) ∷ (0, 8) ∷ (1, 8) ∷ (0, 2) ∷ (1, 2) ∷ (0, 8) ∷ (0, 8) ∷ (1, 8) ∷ (1, 8) ∷ []
+
+-- the log, the journal and the end of a recording
+abbrev pub seen : Recorded Scripted → Log × List (ℕ × ℕ) × Scripted
+seen r = (r.log, r.journal, r.ended)
+
+pub record AreRecorded : Type 0 where
+  pub smallest : by_list stopping_machine (terms_of 1 100 67108864) 1 (fives 1) ((0, 8) ∷ (0, 8) ∷ []) ≡ Some (record {
+    log = stop_log Stop 5 0 0 Read 2 Nothing 3;
+    journal = (0, 2) ∷ (0, 3) ∷ [];
+    turns = (0, 0) ∷ (0, 2) ∷ [];
+    ended = ended (3 ∷ []) true 5;
+  })
+  pub cut : by_list stopping_machine (terms_of 1 100 67108864) 1 (fives 1) ((0, 8) ∷ []) ≡ Some (record {
+    log = log_of 1 100 Cut ((e.Poll 0 0 5 0 ∷ gain 0 0 0 Read [] ∷ e.End 0 ∷ []) ∷ []);
+    journal = (0, 2) ∷ [];
+    turns = (0, 0) ∷ (0, 0) ∷ [];
+    ended = ended (0 ∷ []) false 5;
+  })
+  -- the log with a Gain would have a byte more than the log limit
+  pub full : by_list stopping_machine (terms_of 1 100 100) 1 (fives 1) ((0, 8) ∷ (0, 8) ∷ []) ≡ Some (record {
+    log = log_of 1 100 Full ((e.Poll 0 0 5 0 ∷ e.End 0 ∷ []) ∷ []);
+    journal = (0, 1) ∷ [];
+    turns = (0, 0) ∷ [];
+    ended = ended (0 ∷ []) false 5;
+  })
+  -- the console takes no byte
+  pub fault : by_list sending_machine (terms_of 1 100 67108864) 1 (fives 1) ((0, 8) ∷ (0, 8) ∷ []) ≡ Some (record {
+    log = log_of 1 100 Fault ((e.Poll 0 0 5 0 ∷ gain 0 0 0 Read [] ∷ e.End 2 ∷ []) ∷ []);
+    journal = (0, 2) ∷ (0, 2) ∷ [];
+    turns = (0, 0) ∷ (0, 2) ∷ [];
+    ended = ended (2 ∷ []) false 5;
+  })
+  pub no_moves : option_map seen (by_list racing_machine (terms_of 2 0 67108864) 2 (fives 0) []) ≡ Some (log_of 2 0 Limit ((e.End 0 ∷ []) ∷ (e.End 0 ∷ []) ∷ []), [], first 2)
+  pub race : option_map seen (by_list racing_machine (terms_of 2 8 67108864) 2 (fives 2) race_list) ≡ Some (race_log, race_journal, ended (8 ∷ 8 ∷ []) false 5)
+  pub written_code : option_map (λ r. r.log) (by_list writing_machine (terms_of 1 12 67108864) 2 (fives 2) writing_list) ≡ Some writing_log
