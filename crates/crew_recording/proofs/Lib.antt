@@ -1,0 +1,4 @@
+pub mod Streams
+pub mod Going
+pub mod Obeying
+pub mod Steady

@@ -1,0 +1,19 @@
+-- What holds of each recording of a board.
+use Rattle.std.specs.Prelude.{ℕ, ◌≡◌, List, map, length}
+use Rattle.rv_words.specs.declared.shared.Cause.{Cause}
+use Rattle.flat_machine.specs.State.{FlatState}
+use Rattle.replay_model.specs.Board.{board}
+use Rattle.replay_model.specs.State.{start}
+use Rattle.replay_model.specs.Items.{Item, IsFullOrder}
+use Rattle.crew_recording.specs.Recording.{Recording, Records, first_recording, log_of_recording}
+
+-- a board with so many harts, each with a count
+pub record IsBoard (harts : ℕ) (s : FlatState) : Type 0 where
+  pub harts_size : length s.harts ≡ harts
+  pub counts_size : length s.counts ≡ harts
+
+-- the order that names each item's hart obeys the log, leads to the recorded state, and is full, with whatever cause the run ended
+abbrev pub RunsAreObeyed : Type 0
+RunsAreObeyed = (pages limit harts : ℕ) (image : List ℕ) (cause : Cause) (first : FlatState) (items : List (ℕ × Item)) (r : Recording FlatState)
+    → IsBoard harts first → Records board (first_recording pages harts first) items r
+    → IsFullOrder board (log_of_recording board pages limit image cause r) (start (log_of_recording board pages limit image cause r) first) (map (λ x. x.0) items) r.at
