@@ -21,28 +21,28 @@ use Rattle.crew_recording.proofs.Streams.{set_here, set_size, index_is, index_th
 use Rattle.crew_recording.proofs.Going.{IsTidy}
 use Rattle.crew_recording.proofs.Obeying.{tidy_all, full}
 
-bound_to : {A B : Type 0} (f : A → Option B) (o : Option A) (b : B) → option_and_then f o ≡ Some b → (a : A) × (o ≡ Some a) × (f a ≡ Some b)
+pub bound_to : {A B : Type 0} (f : A → Option B) (o : Option A) (b : B) → option_and_then f o ≡ Some b → (a : A) × (o ≡ Some a) × (f a ≡ Some b)
 bound_to f None b e = absurd (none-some _ e)
 bound_to f (Some a) b e = (a, refl, e)
 
-chosen : {A : Type 0} (b : Bool) (v t : A) → (if b then None else Some v) ≡ Some t → v ≡ t
+pub chosen : {A : Type 0} (b : Bool) (v t : A) → (if b then None else Some v) ≡ Some t → v ≡ t
 chosen true v t e = absurd (none-some _ e)
 chosen false v t e = same_Some _ _ e
 
-unless : {A : Type 0} (b : Bool) (o : Option A) (t : A) → (if b then None else o) ≡ Some t → o ≡ Some t
+pub unless : {A : Type 0} (b : Bool) (o : Option A) (t : A) → (if b then None else o) ≡ Some t → o ≡ Some t
 unless true o t e = absurd (none-some _ e)
 unless false o t e = e
 
-map_size : {A B : Type 0} (f : A → B) (xs : List A) → length (map f xs) ≡ length xs
+pub map_size : {A B : Type 0} (f : A → B) (xs : List A) → length (map f xs) ≡ length xs
 map_size f [] = refl
 map_size f (x ∷ xs) = ap suc (map_size f xs)
 
-within : {X : Type 0} (xs : List X) (i : ℕ) (x : X) → slice_get xs i ≡ Some x → i < length xs
+pub within : {X : Type 0} (xs : List X) (i : ℕ) (x : X) → slice_get xs i ≡ Some x → i < length xs
 within [] i x e = absurd (none-some _ e)
 within (z ∷ xs) zero x e = omega arith
 within (z ∷ xs) (suc i) x e = let l = within xs i x e in omega (arith, l)
 
-beyond : {X : Type 0} (xs : List X) (i : ℕ) → length xs ≤ i → slice_get xs i ≡ None
+pub beyond : {X : Type 0} (xs : List X) (i : ℕ) → length xs ≤ i → slice_get xs i ≡ None
 beyond [] i l = refl
 beyond (x ∷ xs) zero l = absurd (omega (arith, l))
 beyond (x ∷ xs) (suc i) l = beyond xs i (omega (arith, l))
@@ -74,7 +74,7 @@ runs_of act = None
 no_run : (act : Act) → runs_of act ≡ None → (h : ℕ) → act ≡ Run h → ⊥
 no_run act n h e = none-some _ (sym n ∙ ap runs_of e)
 
-leaves : (s t : FlatState) (act : Act) (harts : ℕ) → IsBoard harts s → next act s ≡ Some t → Leaves s act t
+pub leaves : (s t : FlatState) (act : Act) (harts : ℕ) → IsBoard harts s → next act s ≡ Some t → Leaves s act t
 leaves s t (Run h) harts on is =
     let x = bound_to (λ x. ran s h x (next_move x s.memory)) (slice_get s.harts h) t is in
     let l : h < length s.counts = (let a = within s.harts h x.0 x.1 in let b = on.harts_size in let c = on.counts_size in omega (arith, a, b, c)) in
@@ -119,16 +119,16 @@ board_steady harts = record {
   no_more = λ s h on l. ap (option_and_then (λ x. ran s h x (next_move x s.memory))) (beyond s.harts h (let a = on.harts_size in omega (arith, a, l)));
 }
 
-replicate_size : {X : Type 0} (n : ℕ) (x : X) → length (replicate n x) ≡ n
+pub replicate_size : {X : Type 0} (n : ℕ) (x : X) → length (replicate n x) ≡ n
 replicate_size zero x = refl
 replicate_size (suc n) x = ap suc (replicate_size n x)
 
-no_stream : (n h : ℕ) → h < n → stream_in (replicate n []) h ≡ []
+pub no_stream : (n h : ℕ) → h < n → stream_in (replicate n []) h ≡ []
 no_stream zero h l = absurd (omega (arith, l))
 no_stream (suc n) zero l = refl
 no_stream (suc n) (suc h) l = no_stream n h (omega (arith, l))
 
-no_place : (n h : ℕ) → slice_index (replicate n 0) h ≡ 0
+pub no_place : (n h : ℕ) → slice_index (replicate n 0) h ≡ 0
 no_place zero h = refl
 no_place (suc n) zero = refl
 no_place (suc n) (suc h) = no_place n h

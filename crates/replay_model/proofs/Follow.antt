@@ -14,7 +14,7 @@ use Rattle.order_rules.proofs.Crew.{crew_before}
 use Rattle.replay_model.specs.Holders.{Holders, row, held, with_held}
 use Rattle.replay_model.specs.Laws.{StillFollow, FollowIsCrew}
 
-set_here : {X : Type 0} (xs : List X) (i : ℕ) (x : X) → i < length xs → slice_get (slice_set xs i x) i ≡ Some x
+pub set_here : {X : Type 0} (xs : List X) (i : ℕ) (x : X) → i < length xs → slice_get (slice_set xs i x) i ≡ Some x
 set_here [] i x l = absurd (omega arith)
 set_here (y ∷ xs) zero x l = refl
 set_here (y ∷ xs) (suc i) x l = set_here xs i x (omega arith)
@@ -47,19 +47,19 @@ within (y ∷ xs) (suc i) x e = let l = within xs i x e in omega (arith, l)
 of_row : List (Option Mode) → ℕ → Option Mode
 of_row r h = unwrap_or (slice_get r h) None
 
-held_here : (holders : Holders) (page h : ℕ) (hold : Option Mode) → page < length holders → h < length (row holders page) → held (with_held holders page h hold) page h ≡ hold
+pub held_here : (holders : Holders) (page h : ℕ) (hold : Option Mode) → page < length holders → h < length (row holders page) → held (with_held holders page h hold) page h ≡ hold
 unfolding of_row
 held_here holders page h hold a b =
     ap (λ o. of_row (unwrap_or o []) h) (set_here holders page (slice_set (row holders page) h hold) a)
     ∙ ap (λ o. unwrap_or o None) (set_here (row holders page) h hold b)
 
-held_beside : (holders : Holders) (page h g : ℕ) (hold : Option Mode) → page < length holders → g ≢ h → held (with_held holders page h hold) page g ≡ held holders page g
+pub held_beside : (holders : Holders) (page h g : ℕ) (hold : Option Mode) → page < length holders → g ≢ h → held (with_held holders page h hold) page g ≡ held holders page g
 unfolding of_row
 held_beside holders page h g hold a n =
     ap (λ o. of_row (unwrap_or o []) g) (set_here holders page (slice_set (row holders page) h hold) a)
     ∙ ap (λ o. unwrap_or o None) (set_there (row holders page) h g hold n)
 
-held_elsewhere : (holders : Holders) (page q h g : ℕ) (hold : Option Mode) → q ≢ page → held (with_held holders page h hold) q g ≡ held holders q g
+pub held_elsewhere : (holders : Holders) (page q h g : ℕ) (hold : Option Mode) → q ≢ page → held (with_held holders page h hold) q g ≡ held holders q g
 unfolding of_row
 held_elsewhere holders page q h g hold n = ap (λ o. of_row (unwrap_or o []) g) (set_there holders page q (slice_set (row holders page) h hold) n)
 

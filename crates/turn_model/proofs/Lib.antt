@@ -1,1 +1,7 @@
 pub mod WorkedRecordings
+pub mod Sound
+pub mod Ways
+pub mod Making
+pub mod Turning
+pub mod Listing
+pub mod BoardFacts

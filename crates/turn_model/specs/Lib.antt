@@ -6,4 +6,6 @@ pub mod Steps
 pub mod Turn
 pub mod Lists
 pub mod Rounds
+pub mod Faithful
 pub mod Worked
+pub mod Laws

@@ -68,12 +68,13 @@ module _ {S V : Type 0} (machine : Machine S V) (terms : Terms) where
   runs h zero s = Some s
   runs h (suc n) s = option_and_then (λ m. runs h n m.0) (goes machine.flat s h Move (verdict_on machine.flat s h Move))
 
+  abbrev pub passes : ℕ → ℕ → Board S → Board S
+  passes h n b = if (h == b.favoured) && (nat_lt 0 n || is_at_limit machine terms b h) then passes_favour h b else b
+
   -- the moves since the last turn are made; the favoured hart passes the favour on, where it made one or is at the limit; and
   -- the stored want is cleared
   abbrev pub commits : ℕ → ℕ → Board S → Option (Board S)
-  commits h n b = option_map (λ s. with_want h None (passes h n (record b { at = s }))) (runs h n b.at) where
-    passes : ℕ → ℕ → Board S → Board S
-    passes h n c = if (h == c.favoured) && (nat_lt 0 n || is_at_limit machine terms c h) then passes_favour h c else c
+  commits h n b = option_map (λ s. with_want h None (passes h n (record b { at = s }))) (runs h n b.at)
 
   abbrev pub rests_where_closed : Board S → Way S
   rests_where_closed b = if is_some b.closed || machine.flat.is_stopped b.at.flat then Ends Rest b else On b
@@ -87,26 +88,29 @@ module _ {S V : Type 0} (machine : Machine S V) (terms : Terms) where
   abbrev pub poll_at : ℕ → Board S → ℕ → Entry
   poll_at h b time = Poll (count machine terms b h) b.at.cursor.ordinal time (machine.flat.lines_at b.at.flat h time)
 
-  -- a Poll that is due, at the greater of the clock's answer and mtime
-  abbrev pub polls : ℕ → Board S → Way S
-  polls h b = if is_due h b then with_room machine terms (poll_at h b 0) (λ c. asks h c (clock_answers c.outside.times c.outside)) b else On b where
-    asks : ℕ → Board S → Option (ℕ × Outside) → Way S
-    asks h c None = Nowhere
-    asks h c (Some (time, left)) = on (entered machine terms h (poll_at h c (max time (machine.flat.time c.at.flat))) (record c { outside = left }))
+  -- at the greater of the clock's answer and mtime
+  abbrev pub polls_with : ℕ → Board S → Option (ℕ × Outside) → Way S
+  polls_with h b None = Nowhere
+  polls_with h b (Some (time, left)) = on (entered machine terms h (poll_at h b (max time (machine.flat.time b.at.flat))) (record b { outside = left }))
 
-  -- a page is yielded to a hart that wants it in a mode that conflicts with what is held, unless the holder claims it against
-  -- that mode and stands before
+  -- a Poll that is due
+  abbrev pub polls : ℕ → Board S → Way S
+  polls h b = if is_due h b then with_room machine terms (poll_at h b 0) (λ c. polls_with h c (clock_answers c.outside.times c.outside)) b else On b
+
+  abbrev pub yield_of : ℕ → ℕ × Mode → Board S → Entry
+  yield_of h n b = Yield (count machine terms b h) n.0 (next_number b n.0) (left_for n.1)
+
+  -- a want that conflicts with what h holds, unless h claims the page against it and stands before the hart that wants it
+  abbrev pub yields_now : ℕ → ℕ → ℕ × Mode → Board S → Bool
+  yields_now h g n b = conflict (held b.at.holders n.0 h) (Some n.1) && not (claims_against machine terms b h n.0 n.1 && stands_before b h g)
+
+  abbrev pub yields_for : ℕ → ℕ → Option (ℕ × Mode) → Board S → Way S
+  yields_for h g None b = On b
+  yields_for h g (Some n) b = if yields_now h g n b then with_room machine terms (yield_of h n b) (λ c. on (entered machine terms h (yield_of h n c) c)) b else On b
+
+  -- a page is yielded to another hart that has stored a want of it
   abbrev pub yields_to : ℕ → ℕ → Board S → Way S
-  yields_to h g b = if g == h then On b else offers (wanted b g) where
-    offers : Option (ℕ × Mode) → Way S
-    offers None = On b
-    offers (Some (page, mode)) =
-        if conflict (held b.at.holders page h) (Some mode) && not (claims_against machine terms b h page mode && stands_before b h g)
-        then with_room machine terms (yield_of page mode) (λ c. on (entered machine terms h (yield_of page mode) c)) b
-        else On b
-      where
-        yield_of : ℕ → Mode → Entry
-        yield_of page mode = Yield (count machine terms b h) page (next_number b page) (left_for mode)
+  yields_to h g b = if g == h then On b else yields_for h g (wanted b g) b
 
   abbrev pub yields : ℕ → Board S → Way S
   yields h b = ways.goes (map (yields_to h) (harts b)) (On b)
@@ -114,12 +118,13 @@ module _ {S V : Type 0} (machine : Machine S V) (terms : Terms) where
   abbrev pub gain_of : ℕ → ℕ × Mode → Board S → Entry
   gain_of h n b = Gain (count machine terms b h) n.0 (next_number b n.0) n.1 (record { items = waits_due (log_of machine terms b) n.0 h (next_number b n.0); room = 0 })
 
-  -- a page that isn't held so is gained, or its want is stored where another hart keeps it
+  abbrev pub gains_unless : Option ℕ → ℕ → ℕ × Mode → Board S → Way S
+  gains_unless None h n b = with_room machine terms (gain_of h n b) (λ c. on (entered machine terms h (gain_of h n c) c)) b
+  gains_unless (Some g) h n b = Ends (Hold n.0 g) (with_want h (Some n) b)
+
+  -- a page that isn't held so is gained, or the want is stored where another hart keeps it
   abbrev pub gains_page : ℕ → ℕ × Mode → Board S → Way S
-  gains_page h n b = if holds_so b h n then On b else tries (kept_by b h n) where
-    tries : Option ℕ → Way S
-    tries None = with_room machine terms (gain_of h n b) (λ c. on (entered machine terms h (gain_of h n c) c)) b
-    tries (Some g) = Ends (Hold n.0 g) (with_want h (Some n) b)
+  gains_page h n b = if holds_so b h n then On b else gains_unless (kept_by b h n) h n b
 
   -- the fetch page comes first
   abbrev pub gains : ℕ → Board S → Way S
@@ -128,29 +133,31 @@ module _ {S V : Type 0} (machine : Machine S V) (terms : Terms) where
   abbrev pub touch_of : ℕ → Board S → Input → Entry
   touch_of h b input = Touch (count machine terms b h) b.at.cursor.ordinal input
 
-  -- a device access is made, with its input; a console that fails closes the board and a store to STOP does so too; else the
-  -- favoured hart passes the favour on
+  -- behind a Touch: a store to STOP closes the board, else the favoured hart passes the favour on
+  abbrev pub behind_touch : ℕ → Board S → Way S
+  behind_touch h b = if machine.flat.is_stopped b.at.flat then Ends Rest (closes causes.Stop b) else On (if h == b.favoured then passes_favour h b else b)
+
+  abbrev pub touched : ℕ → Option (Board S) → Way S
+  touched h None = Nowhere
+  touched h (Some b) = behind_touch h b
+
+  abbrev pub touches_at : ℕ → DeviceWord → Option ℕ → Asked → Board S → Option (ℕ × Outside) → Way S
+  touches_at h word store answer b None = Nowhere
+  touches_at h word store answer b (Some (now, left)) =
+      touched h (entered machine terms h (touch_of h b (recorded_input word store (machine.flat.time b.at.flat) now answer)) (record b { outside = left }))
+
+  -- a console that fails closes the board
+  abbrev pub touches_with : ℕ → DeviceWord → Option ℕ → Board S → Option (Asked × Outside) → Way S
+  touches_with h word store b None = Ends Rest (closes causes.Fault b)
+  touches_with h word store b (Some (answer, left)) = touches_at h word store answer b (clock_gives word store left)
+
+  abbrev pub accesses : ℕ → Option (DeviceWord × Option ℕ) → Board S → Way S
+  accesses h None b = On b
+  accesses h (Some (word, store)) b = with_room machine terms (touch_of h b Nothing) (λ c. touches_with h word store c (console_gives word store c.outside)) b
+
+  -- a device access is made, with its input
   abbrev pub touches : ℕ → Board S → Way S
-  touches h b = accesses (machine.access b.at.flat h) where
-    after : Board S → Way S
-    after c = if machine.flat.is_stopped c.at.flat then Ends Rest (closes causes.Stop c) else On (if h == c.favoured then passes_favour h c else c)
-
-    touched : Option (Board S) → Way S
-    touched None = Nowhere
-    touched (Some c) = after c
-
-    times : DeviceWord → Option ℕ → Asked → Board S → Option (ℕ × Outside) → Way S
-    times word store answer c None = Nowhere
-    times word store answer c (Some (now, left)) =
-        touched (entered machine terms h (touch_of h c (recorded_input word store (machine.flat.time c.at.flat) now answer)) (record c { outside = left }))
-
-    answers : DeviceWord → Option ℕ → Board S → Option (Asked × Outside) → Way S
-    answers word store c None = Ends Rest (closes causes.Fault c)
-    answers word store c (Some (answer, left)) = times word store answer c (clock_gives word store left)
-
-    accesses : Option (DeviceWord × Option ℕ) → Way S
-    accesses None = On b
-    accesses (Some (word, store)) = with_room machine terms (touch_of h b Nothing) (λ c. answers word store c (console_gives word store c.outside)) b
+  touches h b = accesses h (machine.access b.at.flat h) b
 
   -- up to the lesser of the limit and the next Poll that is due
   abbrev pub goes_on : ℕ → Board S → Way S

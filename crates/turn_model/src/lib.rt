@@ -1,9 +1,19 @@
-//! Turns of the recorder, and recordings by lists of turns: definitions, and examples of them.
+//! Turns of the recorder, and recordings by lists of turns and in rounds (docs/recorder.md): definitions, examples
+//! of them, and laws. The functions have no bodies: they promise the laws.
 #![tactic(auto)]
 
+ghost use Rattle.turn_model.specs.Laws.{JournalsAreFull, JournalsDrive, StartsAreBoards};
 ghost use Rattle.turn_model.specs.Worked.{AreRecorded};
 
 /// Recordings that were worked out by hand come to what they should.
 pub fn worked_recordings()
     ensures { AreRecorded }
+{}
+
+/// By whatever list a board is recorded, the journal is a full order of its log, and a run of the flat machine
+/// to the end.
+pub fn recordings_by_list()
+    ensures full { JournalsAreFull }
+    ensures acts { JournalsDrive }
+    ensures starts { StartsAreBoards }
 {}

@@ -1,0 +1,266 @@
+-- The board's flat machine gives what turns ask of it.
+use Rattle.std.proofs.Common.{◌≡◌, ℕ, zero, suc, ◌+◌, ◌*◌, ◌%◌, ◌<◌, ◌≤◌, ◌==◌, ◌&&◌, ◌||◌, Bool, true, false, not, List, [], ◌∷◌, map, Option, Some, None, slice_get, slice_set, nat_lt, nat_le, is_some, refl, sym, ap, ◌∙◌, subst, inl, inr, ◌⊎◌, arith, if◌then◌else◌, true≢false}
+use Rattle.std.specs.Option.{option_and_then, option_map_or}
+use Rattle.std.specs.List.{range_with_len}
+use Rattle.std.proofs.lemmas.List.FromFn.{length-range_with_len}
+use Rattle.std.proofs.lemmas.Option.{none-some, same_Some}
+use Rattle.std.proofs.lemmas.Bool.Decides.{eqb_tells, leb_tells}
+use Rattle.rv_words.specs.declared.shared.Input.{Input}
+use Rattle.rv_words.specs.Addresses.{in_memory}
+use Rattle.rv_csr.specs.Traps.{pending}
+use Rattle.rv_decode.specs.declared.Instr.{Instr}
+use Rattle.rv_decode.specs.declared.Instr.TheVariants as instr
+use Rattle.rv_decode.specs.declared.LoadOp.{LoadOp}
+use Rattle.rv_decode.specs.declared.StoreOp.{StoreOp}
+use Rattle.rv_decode.specs.declared.UpperOp.{UpperOp}
+use Rattle.rv_decode.specs.declared.UpperOp.TheVariants.{Lui, Auipc}
+use Rattle.rv_decode.specs.declared.CsrOp.{CsrOp}
+use Rattle.rv_decode.specs.Table.{meaning}
+use Rattle.rv_hart.specs.State.{Hart}
+use Rattle.rv_hart.specs.Values.{load_size, store_size, branch_taken, does_write}
+use Rattle.rv_hart.specs.Effects.{reg, is_device, load_effect, store_effect, atomic_effect, is_reserved, conditional_effect, jump, upper_effect, csr_effect, instr_effect, decoded_effect, address, word_plus, without_bit_0}
+use Rattle.rv_hart.specs.Moves.{hart_at_start, after, need_of}
+use Rattle.rv_hart.specs.Needs.{page_at, data_pages, pages_needed}
+use Rattle.rv_hart.specs.declared.effect.Effect.{Effect}
+use Rattle.rv_hart.specs.declared.effect.Effect.TheVariants.{Sets, Jumps, Loads, Stores, Reserves, Commits, Fails, Updates, DeviceLoads, DeviceStores, WritesCsr, Returns, Traps}
+use Rattle.rv_hart.specs.declared.effect.Fetch.TheVariants as fetch
+use Rattle.rv_hart.specs.declared.effect.Wrote.{Wrote}
+use Rattle.rv_hart.specs.declared.effect.Wrote.TheVariants as wrote
+use Rattle.rv_csr.specs.Registers.{csr_read, is_read_only}
+use Rattle.device_board.specs.Accesses.{touched}
+use Rattle.flat_machine.specs.State.{FlatState}
+use Rattle.flat_machine.specs.Moves.{fetched, fetched_by, next_move, access_of, lost_by, writes_in}
+use Rattle.flat_machine.specs.Acts.{next, ran, accessed, touch_made, poll_made, lost}
+use Rattle.flat_machine.specs.declared.act.Act.{Act}
+use Rattle.flat_machine.specs.declared.act.Act.TheVariants.{Run, Touch, Poll, Lose}
+use Rattle.replay_model.specs.Board.{board, hart_access, next_access, unit}
+use Rattle.replay_model.specs.State.{start}
+use Rattle.replay_model.specs.Journal.{order_of}
+use Rattle.replay_model.proofs.Driving.{mapped, orders_drive}
+use Rattle.crew_recording.specs.Laws as crew
+use Rattle.crew_recording.specs.Recording.{IsSteady}
+use Rattle.crew_recording.proofs.Streams.{set_here, set_there}
+use Rattle.crew_recording.proofs.Steady.{map_size, replicate_size, within, bound_to, chosen, unless, leaves, board_steady}
+use Rattle.turn_model.specs.Machine.{board_machine}
+use Rattle.turn_model.specs.Faithful.{IsFaithful, AllBelow}
+use Rattle.turn_model.specs.Laws.{IsBoard, JournalsAreFull, JournalsDrive, StartsAreBoards}
+use Rattle.turn_model.proofs.Listing.{recorded_full}
+
+-- the page of an address in memory is there
+page_there : (pages at : ℕ) → in_memory pages at ≡ true → page_at unit at < pages
+page_there pages at e = by (leb_tells 0x80000000 at) (leb_tells (suc at) (0x80000000 + 4096 * pages)) where
+  by : (_ : ((nat_le 0x80000000 at ≡ true) × (0x80000000 ≤ at)) ⊎ ((nat_le 0x80000000 at ≡ false) × (at < 0x80000000))) → (_ : ((nat_lt at (0x80000000 + 4096 * pages) ≡ true) × (suc at ≤ 0x80000000 + 4096 * pages)) ⊎ ((nat_lt at (0x80000000 + 4096 * pages) ≡ false) × (0x80000000 + 4096 * pages < suc at))) → page_at unit at < pages
+  by (inl (a, l)) (inl (b, m)) = omega (arith, l, m)
+  by (inl (a, l)) (inr (b, m)) = absurd (true≢false (sym e ∙ ap (λ x. nat_le 0x80000000 at && x) b ∙ no_last (nat_le 0x80000000 at))) where
+    no_last : (x : Bool) → (x && false) ≡ false
+    no_last true = refl
+    no_last false = refl
+  by (inr (a, l)) other = absurd (true≢false (sym e ∙ ap (λ x. x && nat_lt at (0x80000000 + 4096 * pages)) a))
+
+-- what an effect needs is in pages that there are
+abbrev Inside : ℕ → Effect → Type 0
+Inside pages effect = AllBelow pages (data_pages unit (need_of effect))
+
+in_either : (pages : ℕ) (b : Bool) (x y : Effect) → (b ≡ true → Inside pages x) → Inside pages y → Inside pages (if b then x else y)
+in_either pages true x y f g = f refl
+in_either pages false x y f g = g
+
+load_inside : (x : Hart) (op : LoadOp) (rd at : ℕ) → Inside x.pages (load_effect x op rd at)
+load_inside x op rd at =
+    in_either x.pages (not (at % load_size op == 0)) _ _ (λ _. tt)
+    (in_either x.pages (in_memory x.pages at) (Loads op rd at) _ (λ e. (page_there x.pages at e, tt))
+    (in_either x.pages (load_size op == 4 && is_device x at) (DeviceLoads rd at) (Traps 5 at) (λ _. tt) tt))
+
+store_inside : (x : Hart) (op : StoreOp) (at value : ℕ) → Inside x.pages (store_effect x op at value)
+store_inside x op at value =
+    in_either x.pages (not (at % store_size op == 0)) _ _ (λ _. tt)
+    (in_either x.pages (in_memory x.pages at) (Stores at (store_size op) value) _ (λ e. (page_there x.pages at e, tt))
+    (in_either x.pages (store_size op == 4 && is_device x at) (DeviceStores at value) (Traps 7 at) (λ _. tt) tt))
+
+atomic_inside : (x : Hart) (misaligned at : ℕ) (effect : Effect) → (in_memory x.pages at ≡ true → Inside x.pages effect) → Inside x.pages (atomic_effect x misaligned at effect)
+atomic_inside x misaligned at effect f =
+    in_either x.pages (not (at % 4 == 0)) (Traps misaligned at) _ (λ _. tt) (in_either x.pages (in_memory x.pages at) effect (Traps (misaligned + 1) at) f tt)
+
+jump_inside : (pages rd target : ℕ) → Inside pages (jump rd target)
+jump_inside pages rd target = in_either pages (target % 4 == 0) (Jumps rd target) (Traps 0 target) (λ _. tt) tt
+
+csr_inside : (x : Hart) (op : CsrOp) (rd rs1 number word : ℕ) (o : Option ℕ) → Inside x.pages (csr_effect x op rd rs1 number word o)
+csr_inside x op rd rs1 number word None = tt
+csr_inside x op rd rs1 number word (Some old) =
+    in_either x.pages (not (does_write op rs1)) (Sets rd old) _ (λ _. tt) (in_either x.pages (is_read_only number) (Traps 2 word) _ (λ _. tt) tt)
+
+upper_inside : (x : Hart) (op : UpperOp) (rd imm : ℕ) → Inside x.pages (upper_effect x op rd imm)
+upper_inside x Lui rd imm = tt
+upper_inside x Auipc rd imm = tt
+
+instr_inside : (x : Hart) (i : Instr) (word : ℕ) → Inside x.pages (instr_effect x i word)
+unfolding instr_effect
+instr_inside x (instr.Upper op rd imm) word = upper_inside x op rd imm
+instr_inside x (instr.Jal rd offset) word = jump_inside x.pages rd (word_plus x.pc offset)
+instr_inside x (instr.Jalr rd rs1 offset) word = jump_inside x.pages rd (without_bit_0 (address x rs1 offset))
+instr_inside x (instr.Branch op rs1 rs2 offset) word = in_either x.pages (branch_taken op (reg x rs1) (reg x rs2)) (jump 0 (word_plus x.pc offset)) (Sets 0 0) (λ _. jump_inside x.pages 0 (word_plus x.pc offset)) tt
+instr_inside x (instr.Load op rd rs1 offset) word = load_inside x op rd (address x rs1 offset)
+instr_inside x (instr.Store op rs1 rs2 offset) word = store_inside x op (address x rs1 offset) (reg x rs2)
+instr_inside x (instr.Imm op rd rs1 imm) word = tt
+instr_inside x (instr.Shift op rd rs1 amount) word = tt
+instr_inside x (instr.Reg op rd rs1 rs2) word = tt
+instr_inside x (instr.Fence w) word = tt
+instr_inside x (instr.FenceI w) word = tt
+instr_inside x instr.Ecall word = tt
+instr_inside x instr.Ebreak word = tt
+instr_inside x instr.Mret word = tt
+instr_inside x instr.Wfi word = tt
+instr_inside x (instr.Csr op rd rs1 number) word = csr_inside x op rd rs1 number word (csr_read number x.csrs)
+instr_inside x (instr.LoadReserved rd rs1 order) word = atomic_inside x 4 (reg x rs1) (Reserves rd (reg x rs1)) (λ e. (page_there x.pages (reg x rs1) e, tt))
+instr_inside x (instr.StoreConditional rd rs1 rs2 order) word =
+    atomic_inside x 6 (reg x rs1) (conditional_effect x rd (reg x rs1) (reg x rs2)) (λ e.
+    in_either x.pages (is_reserved x (reg x rs1)) (Commits rd (reg x rs1) (reg x rs2)) (Fails rd (reg x rs1)) (λ _. (page_there x.pages (reg x rs1) e, tt)) (page_there x.pages (reg x rs1) e, tt))
+instr_inside x (instr.Amo op rd rs1 rs2 order) word = atomic_inside x 6 (reg x rs1) (Updates op rd (reg x rs1) (reg x rs2)) (λ e. (page_there x.pages (reg x rs1) e, tt))
+
+decoded_inside : (x : Hart) (o : Option Instr) (word : ℕ) → Inside x.pages (decoded_effect x o word)
+decoded_inside x None word = tt
+decoded_inside x (Some i) word = instr_inside x i word
+
+-- what the next move of a hart needs is in pages that there are
+needs_inside : (x : Hart) (memory : List ℕ) → AllBelow x.pages (pages_needed unit x (fetched x memory))
+needs_inside x memory = by (is_some (pending x.csrs)) where
+  in_place : (m : Bool) → in_memory x.pages x.pc ≡ m → AllBelow x.pages (pages_needed unit x (fetched_by memory (if m then fetch.At x.pc else fetch.Fault)))
+  in_place true e = (page_there x.pages x.pc e, decoded_inside x (meaning _) _)
+  in_place false e = tt
+
+  by : (b : Bool) → AllBelow x.pages (pages_needed unit x (fetched_by memory (if b then fetch.Interrupt else if in_memory x.pages x.pc then fetch.At x.pc else fetch.Fault)))
+  by true = tt
+  by false = in_place (in_memory x.pages x.pc) refl
+
+need_of_hart : (pages : ℕ) (memory : List ℕ) (o : Option Hart) → ((x : Hart) → o ≡ Some x → x.pages ≡ pages) → AllBelow pages (option_map_or (λ x. pages_needed unit x (fetched x memory)) o [])
+need_of_hart pages memory None f = tt
+need_of_hart pages memory (Some x) f = subst (λ p. AllBelow p (pages_needed unit x (fetched x memory))) (f x refl) (needs_inside x memory)
+
+-- a move leaves the number of pages of its hart, and of the others
+after_pages : (x : Hart) (e : Effect) (loaded : ℕ) → (after x e loaded).pages ≡ x.pages
+after_pages x (Sets rd value) loaded = refl
+after_pages x (Jumps rd target) loaded = refl
+after_pages x (Loads op rd at) loaded = refl
+after_pages x (Stores at size value) loaded = refl
+after_pages x (Reserves rd at) loaded = refl
+after_pages x (Commits rd at value) loaded = refl
+after_pages x (Fails rd at) loaded = refl
+after_pages x (Updates op rd at operand) loaded = refl
+after_pages x (DeviceLoads rd at) loaded = refl
+after_pages x (DeviceStores at value) loaded = refl
+after_pages x (WritesCsr rd old number value) loaded = refl
+after_pages x Returns loaded = refl
+after_pages x (Traps cause value) loaded = refl
+
+lost_pages : (w : Wrote) (x : Hart) → (lost_by w x).pages ≡ x.pages
+lost_pages wrote.Nothing x = refl
+lost_pages (wrote.Bytes at size value) x = by (writes_in at x.reserved) where
+  by : (b : Bool) → (if b then record x { reserved = None } else x).pages ≡ x.pages
+  by true = refl
+  by false = refl
+
+abbrev Pages : ℕ → List Hart → Type 0
+Pages pages harts = (h : ℕ) (x : Hart) → slice_get harts h ≡ Some x → x.pages ≡ pages
+
+set_pages : (pages : ℕ) (harts : List Hart) (h : ℕ) (x y : Hart) → slice_get harts h ≡ Some x → Pages pages harts → y.pages ≡ x.pages → Pages pages (slice_set harts h y)
+set_pages pages harts h x y at all same g z is = elim (eqb_tells g h) [
+  | inl (t, e) ↦
+      let now : Some y ≡ Some z = sym (set_here harts h y (within harts h x at)) ∙ subst (λ k. slice_get (slice_set harts h y) k ≡ Some z) e is in
+      ap (λ (w : Hart). w.pages) (sym (same_Some _ _ now)) ∙ same ∙ all h x at
+  | inr (f, n) ↦ all g z (sym (set_there harts h g y n) ∙ is)
+]
+
+map_get : {A B : Type 0} (f : A → B) (xs : List A) (i : ℕ) (y : B) → slice_get (map f xs) i ≡ Some y → (x : A) × (slice_get xs i ≡ Some x) × (f x ≡ y)
+map_get f [] i y e = absurd (none-some _ e)
+map_get f (x ∷ xs) zero y e = (x, refl, same_Some _ _ e)
+map_get f (x ∷ xs) (suc i) y e = map_get f xs i y e
+
+get_map : {A B : Type 0} (f : A → B) (xs : List A) (i : ℕ) (x : A) → slice_get xs i ≡ Some x → slice_get (map f xs) i ≡ Some (f x)
+get_map f [] i x e = absurd (none-some _ e)
+get_map f (y ∷ xs) zero x e = ap (λ z. Some (f z)) (same_Some _ _ e)
+get_map f (y ∷ xs) (suc i) x e = get_map f xs i x e
+
+lost_all : (pages : ℕ) (w : Wrote) (harts : List Hart) → Pages pages harts → Pages pages (map (lost_by w) harts)
+lost_all pages w harts all h y is =
+    let x = map_get (lost_by w) harts h y is in
+    ap (λ (z : Hart). z.pages) (sym x.2) ∙ lost_pages w x.0 ∙ all h x.0 x.1
+
+pages_kept : (pages : ℕ) (s t : FlatState) (act : Act) → Pages pages s.harts → next act s ≡ Some t → Pages pages t.harts
+pages_kept pages s t (Run h) all is =
+    let x = bound_to (λ x. ran s h x (next_move x s.memory)) (slice_get s.harts h) t is in
+    let c = chosen (is_some (access_of (need_of (next_move x.0 s.memory)))) _ t x.2 in
+    subst (λ (u : FlatState). Pages pages u.harts) c
+    (set_pages pages (map (lost_by _) s.harts) h (lost_by _ x.0) _ (get_map (lost_by _) s.harts h x.0 x.1) (lost_all pages _ s.harts all) (after_pages x.0 (next_move x.0 s.memory) _ ∙ sym (lost_pages _ x.0)))
+pages_kept pages s t (Touch h input) all is =
+    let x = bound_to (λ x. touch_made s h input x (next_move x s.memory)) (slice_get s.harts h) t is in
+    let d = mapped (accessed s h x.0 (next_move x.0 s.memory)) _ t (unless (is_some s.devices.stop) _ t x.2) in
+    subst (λ (u : FlatState). Pages pages u.harts) d.2 (set_pages pages s.harts h x.0 _ x.1 all (after_pages x.0 (next_move x.0 s.memory) d.0.1))
+pages_kept pages s t (Poll h time) all is =
+    let x = bound_to (poll_made s h time) (slice_get s.harts h) t is in
+    subst (λ (u : FlatState). Pages pages u.harts) (chosen (is_some s.devices.stop || nat_lt time s.devices.mtime) _ t x.2) (set_pages pages s.harts h x.0 _ x.1 all refl)
+pages_kept pages s t (Lose h) all is =
+    let x = mapped (lost s h) (slice_get s.harts h) t is in
+    subst (λ (u : FlatState). Pages pages u.harts) x.2 (set_pages pages s.harts h x.0 _ x.1 all refl)
+
+some_is : {A : Type 0} (o : Option A) (x : A) → o ≡ Some x → is_some o ≡ true
+some_is o x e = ap is_some e
+
+not_chosen : {A : Type 0} (b : Bool) (o : Option A) (t : A) → (if b then None else o) ≡ Some t → b ≡ false
+not_chosen true o t e = absurd (none-some _ e)
+not_chosen false o t e = refl
+
+first_false : (a b : Bool) → (a || b) ≡ false → a ≡ false
+first_false true b e = absurd (true≢false e)
+first_false false b e = refl
+
+touch_tells : (s t : FlatState) (h : ℕ) (input : Input) → next (Touch h input) s ≡ Some t → (board.is_at_device s h ≡ true) × (board.suits s h input ≡ true) × (board.is_stopped s ≡ false)
+touch_tells s t h input is =
+    let x = bound_to (λ x. touch_made s h input x (next_move x s.memory)) (slice_get s.harts h) t is in
+    let running = not_chosen (is_some s.devices.stop) _ t x.2 in
+    let d = mapped (accessed s h x.0 (next_move x.0 s.memory)) (option_and_then (λ access. touched s.devices access input) (access_of (need_of (next_move x.0 s.memory)))) t (unless (is_some s.devices.stop) _ t x.2) in
+    let a = bound_to (λ access. touched s.devices access input) (access_of (need_of (next_move x.0 s.memory))) d.0 d.1 in
+    let access : hart_access s h ≡ Some a.0 = ap (option_and_then (λ x. next_access x s.memory)) x.1 ∙ a.1 in
+    (some_is (hart_access s h) a.0 access, ap (λ o. is_some (option_and_then (λ access. touched s.devices access input) o)) access ∙ ap is_some a.2, running)
+
+poll_tells : (s t : FlatState) (h time : ℕ) → next (Poll h time) s ≡ Some t → board.is_stopped s ≡ false
+poll_tells s t h time is =
+    let x = bound_to (poll_made s h time) (slice_get s.harts h) t is in
+    first_false (is_some s.devices.stop) (nat_lt time s.devices.mtime) (not_chosen (is_some s.devices.stop || nat_lt time s.devices.mtime) _ t x.2)
+
+board_steadier : (harts pages : ℕ) → IsSteady board harts (IsBoard harts pages)
+board_steadier harts pages = record {
+  lasts = λ s t act on is. let l = leaves s t act harts (plain s on) is in record { harts_size = l.harts ∙ on.harts_size; counts_size = l.counts ∙ on.counts_size; pages_are = pages_kept pages s t act on.pages_are is };
+  rises = λ s t act h on is. (board_steady harts).rises s t act h (plain s on) is;
+  moves = λ s t h on is. (board_steady harts).moves s t h (plain s on) is;
+  no_more = λ s h on l. (board_steady harts).no_more s h (plain s on) l;
+}
+  where
+    plain : (s : FlatState) → IsBoard harts pages s → crew.IsBoard harts s
+    plain s on = record { harts_size = on.harts_size; counts_size = on.counts_size }
+
+pub board_faithful : (harts pages : ℕ) → IsFaithful board harts pages (IsBoard harts pages)
+board_faithful harts pages = record {
+  steady = board_steadier harts pages;
+  inside = λ s h on. need_of_hart pages s.memory (slice_get s.harts h) (λ x e. on.pages_are h x e);
+  touches = touch_tells;
+  polls = poll_tells;
+}
+
+pub journals_are_full : JournalsAreFull
+journals_are_full terms harts first outside list r on of is =
+    recorded_full board_machine terms harts (IsBoard harts terms.pages) (board_faithful harts terms.pages) first outside list r on of is
+
+pub journals_drive : JournalsDrive
+journals_drive terms harts first outside list r on of is =
+    let f = journals_are_full terms harts first outside list r on of is in
+    orders_drive r.log (start r.log first) f.0 (order_of r.journal) (f.2.0, f.2.1, f.2.2.leads) ∙ ap (λ t. Some t) f.1
+
+starts_with : (pages : ℕ) (f : ℕ → Hart) (ids : List ℕ) (h : ℕ) (x : Hart) → ((id : ℕ) → (f id).pages ≡ pages) → slice_get (map f ids) h ≡ Some x → x.pages ≡ pages
+starts_with pages f ids h x all e = let m = map_get f ids h x e in ap (λ (z : Hart). z.pages) (sym m.2) ∙ all m.0
+
+pub starts_are_boards : StartsAreBoards
+starts_are_boards image harts = record {
+  harts_size = map_size _ (range_with_len 0 harts) ∙ length-range_with_len 0 harts;
+  counts_size = replicate_size harts 0;
+  pages_are = λ h x e. starts_with image.pages (λ id. hart_at_start id harts image.pages image.entry) (range_with_len 0 harts) h x (λ id. refl) e;
+}

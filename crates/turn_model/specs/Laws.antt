@@ -1,0 +1,41 @@
+-- What holds of each recording of a board.
+use Rattle.std.specs.Prelude.{ℕ, ◌≡◌, ◌<◌, List, [], ◌∷◌, length, slice_get, Some}
+use Rattle.rv_hart.specs.State.{Hart}
+use Rattle.elf_image.specs.Image.{Image}
+use Rattle.flat_machine.specs.State.{FlatState, flat_at_start}
+use Rattle.flat_machine.specs.Runs.{run_from}
+use Rattle.replay_model.specs.Board.{board}
+use Rattle.replay_model.specs.State.{Replay, start}
+use Rattle.replay_model.specs.Items.{IsFullOrder}
+use Rattle.replay_model.specs.Acts.{acts_of}
+use Rattle.replay_model.specs.Journal.{order_of}
+use Rattle.turn_model.specs.Machine.{board_machine}
+use Rattle.turn_model.specs.Board.{Outside, Terms, board_at_start}
+use Rattle.turn_model.specs.Lists.{Recorded, recorded_by_list}
+
+-- a flat state of a board with so many harts and pages
+pub record IsBoard (harts pages : ℕ) (s : FlatState) : Type 0 where
+  pub harts_size : length s.harts ≡ harts
+  pub counts_size : length s.counts ≡ harts
+  pub pages_are : (h : ℕ) (x : Hart) → slice_get s.harts h ≡ Some x → x.pages ≡ pages
+
+-- the rows of a list are of harts that the board has
+abbrev pub OfHarts : ℕ → List (ℕ × ℕ) → Type 0
+OfHarts harts [] = Unit {0}
+OfHarts harts (row ∷ list) = (row.0 < harts) × OfHarts harts list
+
+-- the journal of a recording by any list obeys its log, leads to its end, and is full
+abbrev pub JournalsAreFull : Type 0
+JournalsAreFull = (terms : Terms) (harts : ℕ) (first : FlatState) (outside : Outside) (list : List (ℕ × ℕ)) (r : Recorded FlatState)
+    → IsBoard harts terms.pages first → OfHarts harts list → recorded_by_list board_machine terms list (board_at_start terms harts first outside) ≡ Some r
+    → (end : Replay FlatState) × (end.flat ≡ r.ended) × IsFullOrder board r.log (start r.log first) (order_of r.journal) end
+
+-- its acts drive the flat machine to that end
+abbrev pub JournalsDrive : Type 0
+JournalsDrive = (terms : Terms) (harts : ℕ) (first : FlatState) (outside : Outside) (list : List (ℕ × ℕ)) (r : Recorded FlatState)
+    → IsBoard harts terms.pages first → OfHarts harts list → recorded_by_list board_machine terms list (board_at_start terms harts first outside) ≡ Some r
+    → run_from first (acts_of board r.log (start r.log first) (order_of r.journal)) ≡ Some r.ended
+
+-- the start state of an image is a board
+abbrev pub StartsAreBoards : Type 0
+StartsAreBoards = (image : Image) (harts : ℕ) → IsBoard harts image.pages (flat_at_start image harts)
