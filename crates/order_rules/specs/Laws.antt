@@ -2,10 +2,12 @@
 use Rattle.std.specs.Prelude.{ℕ, ◌≡◌, ◌≢◌, ◌+◌, ◌<◌, ◌⊎◌, Bool, true, false, List, find, length, slice_get, Some, None}
 use Rattle.log_entry.specs.declared.log.Entry.{Entry}
 use Rattle.log_entry.specs.declared.log.Log.{Log}
-use Rattle.order_rules.specs.Orderly.{Spot, spots, Keeps, o5, o6, IsOrderly, IsLeastBreak}
+use Rattle.order_rules.specs.Orderly.{Spot, spots, Keeps, o5, o6, o8, LeastOrderLeaves, IsOrderly, IsLeastBreak}
 use Rattle.log_entry.specs.Parts.{page_number, conflict}
 use Rattle.order_rules.specs.Rules.{held}
+use Rattle.orders_law.specs.Orders.{IsFull}
 use Rattle.order_rules.specs.Places.{entry_at, numbered}
+use Rattle.order_rules.specs.Cursor.{Cursor, start, take_one, least_left}
 
 pub record ReportsAreOne : Type 0 where
   pub none : (log : Log) (rule hart entry : ℕ) → IsOrderly log → IsLeastBreak log rule hart entry → ⊥
@@ -38,3 +40,7 @@ NumbersName = (log : Log) (h i page k : ℕ) (e : Entry) → Keeps log o5 → en
 -- before each number of a page no two harts hold it in conflict, in a log that keeps O6
 abbrev pub CrewBefore : Type 0
 CrewBefore = (log : Log) (page k g h : ℕ) → Keeps log o6 → g ≢ h → conflict (held log page g k) (held log page h k) ≡ false
+
+-- where some order takes all entries of a log with right numbers and ordinals, the least order does
+abbrev pub LeastTakesAll : Type 0
+LeastTakesAll = (log : Log) (xs : List (ℕ × ℕ)) (c : Cursor) → Keeps log o5 → Keeps log o8 → IsFull (take_one log) (start log) xs c → least_left log c ≡ None → LeastOrderLeaves log None

@@ -3,7 +3,7 @@
 #![tactic(auto)]
 
 ghost use Rattle.order_rules.specs.Worked.{AreJudged};
-ghost use Rattle.order_rules.specs.Laws.{ReportsAreOne, FirstIsLeast, NumbersName, CrewBefore};
+ghost use Rattle.order_rules.specs.Laws.{ReportsAreOne, FirstIsLeast, NumbersName, CrewBefore, LeastTakesAll};
 
 /// The rules judge logs that were worked out by hand as they should.
 pub fn worked_logs()
@@ -28,4 +28,9 @@ pub fn numbers_name()
 /// Before each number of a page no two harts hold it in conflict.
 pub fn crew_before()
     ensures { CrewBefore }
+{}
+
+/// Where some order takes all entries, the least order does.
+pub fn least_takes_all()
+    ensures { LeastTakesAll }
 {}
