@@ -1,0 +1,415 @@
+//! The run of one hart.
+
+ghost use Rattle.std.specs.Option.{option_copied, option_map};
+ghost use Rattle.order_rules.specs.Places.{is_number};
+ghost use Rattle.std.specs.Prelude.{ℕ, ◌≡◌, ◌≢◌, ◌+◌, ◌-◌, ◌*◌, ◌/◌, ◌%◌, ◌^◌, ◌<◌, ◌≤◌, ◌∷◌, [], find, length, slice_get, false, None, Some, IsSome, MatchOption, IfOk};
+ghost use Rattle.rv_words.specs.declared.shared.Mode.TheVariants.{Read, Write};
+ghost use Rattle.rv_hart.specs.Effects.{effect_of};
+ghost use Rattle.rv_hart.specs.Moves.{after, need_of};
+ghost use Rattle.rv_hart.specs.Needs.{page_at, data_pages};
+ghost use Rattle.rv_hart.specs.Places.{WordInMemory, NeedIsThere, WritesInMemory};
+ghost use Rattle.rv_csr.specs.Traps.{with_lines};
+ghost use Rattle.log_entry.specs.Parts.{strength};
+ghost use Rattle.flat_machine.specs.State.{FlatState};
+ghost use Rattle.flat_machine.specs.Acts.{with_lines_of};
+ghost use Rattle.replay_model.specs.Board.{board};
+ghost use Rattle.replay_model.specs.State.{Replay, IsCrewState};
+ghost use Rattle.hart_run.specs.Agreement.{Agrees, IsAhead, word_seen, pages_known};
+ghost use Rattle.hart_run.specs.Legs.{KeepsPages, MakesLeg};
+ghost use Rattle.hart_run.specs.Run as runs;
+ghost use Rattle.hart_run.specs.Run.{run_at_start, hold_of, lacks, word_held, word_of, move_held, data_ahead, ahead_of, moved_by, stored_in, stronger, needed_in, most_needed, claim_of, IsAbove, taken, store_taken, given, store_given, frames_given, ends_with, touched_by, FrameOf, Steps, IsAtDevice, AheadAt};
+
+use elf_image::Image;
+use guest_pages::{Page, PageStore};
+use rv_hart::{Fetch, Hart, Need, Wrote};
+use rv_words::{Access, Mode};
+use shared_types::NoMemory;
+use std::alloc::Global;
+use std::marker::Model;
+
+/// Why a run paused.
+#[derive(Clone, Copy, Debug, PartialEq, Eq)]
+pub enum Pause {
+    /// The count was reached.
+    Due,
+    /// The next move needs this page, which isn't held so.
+    Wants(u32, Mode),
+    /// The next move is this device access.
+    AtDevice(Access),
+}
+
+/// What a hart's next move asks for.
+#[derive(Clone, Copy, Debug, PartialEq, Eq)]
+pub enum Ahead {
+    /// Nothing: the hart can make it.
+    Free,
+    Wants(u32, Mode),
+    AtDevice(Access),
+}
+
+/// The bytes of a page.
+const UNIT: u32 = 4096;
+
+/// A hart with its count and a frame for each page of the memory, held or spare.
+#[derive(Drop)]
+pub struct HartRun {
+    hart: Hart,
+    count: u64,
+    held: Vec<Option<Mode>>,
+    frames: PageStore,
+}
+
+impl Model for HartRun {
+    ghost use Rattle.hart_run.specs.Run as runs;
+    ghost use Rattle.hart_run.specs.Run.{IsOneRun};
+
+    ghost Value = { runs.Run };
+
+    ghost view = { λ r. record { hart = r.hart; count = r.count; held = r.held.items; frames = r.frames } };
+
+    ghost invariant = { λ r. IsOneRun (record { hart = r.hart; count = r.count; held = r.held.items; frames = r.frames }) };
+}
+
+/// How much a hold is worth: nothing, Read, Write.
+fn strength(hold: Option<Mode>) -> u8
+    ensures { result ≡ strength hold }
+{
+    match hold {
+        None => 0,
+        Some(Mode::Read) => 1,
+        Some(Mode::Write) => 2,
+    }
+}
+
+fn page_of(at: u32) -> u32
+    requires { 0x80000000 ≤ at }
+    ensures { result ≡ page_at 4096 at }
+{
+    (at - 0x8000_0000) / UNIT
+}
+
+fn stronger(one: Option<Mode>, other: Option<Mode>) -> Option<Mode>
+    ensures { result ≡ stronger one other }
+{
+    if strength(one) < strength(other) {
+        other
+    } else {
+        one
+    }
+}
+
+/// The mode, where the address lies in the page.
+fn needed_at(at: u32, mode: Mode, page: u32) -> Option<Mode>
+    requires { 0x80000000 ≤ at }
+    ensures { result ≡ needed_in page (page_at 4096 at, mode) }
+{
+    if page_of(at) == page { Some(mode) } else { None }
+}
+
+/// The mode in which the data of a move need the page.
+fn needed_for(need: Need, page: u32) -> Option<Mode>
+    requires { IsAbove need }
+    ensures { result ≡ most_needed page (data_pages 4096 need) }
+{
+    match need {
+        Need::Load(at) => needed_at(at, Mode::Read, page),
+        Need::Store(at) | Need::Exclusive(at) => needed_at(at, Mode::Write, page),
+        Need::Device(_) | Need::Nothing => None,
+    }
+}
+
+impl HartRun {
+    /// A run at its hart's start, on a board with so many harts.
+    pub fn start(alloc: Global, id: u8, harts: u8, image: &Image) -> Result<HartRun, NoMemory>
+        requires { id < harts }
+        ensures { IfOk result (λ r. r ≡ run_at_start id harts image.now) }
+    {
+        let number = image.bytes().len() / usize::from(image.unit());
+        let Ok(held) = Vec::from_elem(alloc, None, number) else {
+            return Err(NoMemory);
+        };
+        let frames = PageStore::blank(alloc, number as u32, image.unit())?;
+        let hart = Hart::start(id, harts, image.pages(), image.entry());
+        Ok(HartRun {
+            hart,
+            count: 0,
+            held,
+            frames,
+        })
+    }
+
+    /// The number of moves that the hart has made.
+    pub fn count(&self) -> u64
+        ensures { result ≡ self.now.count }
+    {
+        self.count
+    }
+
+    pub fn hart(&self) -> &Hart
+        ensures { result.now ≡ self.now.hart }
+    {
+        &self.hart
+    }
+
+    /// Whether the page of an address is held in no such mode.
+    fn lacks(&self, at: u32, mode: Mode) -> bool
+        requires { WordInMemory self.now.hart.pages at }
+        ensures { result ≡ lacks self.now (page_at self.now.frames.unit at, mode) }
+    {
+        strength(self.held[page_of(at) as usize]) < strength(Some(mode))
+    }
+
+    /// The aligned word round an address, of its frame.
+    fn word_held(&self, at: u32) -> u32
+        requires { WordInMemory self.now.hart.pages at }
+        ensures { result ≡ word_held self.now at }
+    {
+        let place = (at / 4 * 4 - 0x8000_0000) % UNIT;
+        self.frames.page(page_of(at)).load(place as u16)
+    }
+
+    /// What an address that is used in a mode asks for.
+    fn asked_at(&self, at: u32, mode: Mode) -> Ahead
+        requires { WordInMemory self.now.hart.pages at }
+        ensures { result ≡ runs.asked_of (find (lacks self.now) ((page_at self.now.frames.unit at, mode) ∷ [])) }
+    {
+        let _ = &self.frames;
+        if self.lacks(at, mode) {
+            Ahead::Wants(page_of(at), mode)
+        } else {
+            Ahead::Free
+        }
+    }
+
+    /// What the data of a move ask for.
+    fn data_ahead(&self, need: Need) -> Ahead
+        requires { NeedIsThere self.now.hart need }
+        ensures { result ≡ data_ahead self.now need }
+    {
+        match need {
+            Need::Load(at) => self.asked_at(at, Mode::Read),
+            Need::Store(at) | Need::Exclusive(at) => self.asked_at(at, Mode::Write),
+            Need::Device(access) => Ahead::AtDevice(access),
+            Need::Nothing => Ahead::Free,
+        }
+    }
+
+    /// What the next move asks for, without making it.
+    pub fn ahead(&self) -> Ahead
+        ensures ahead { result ≡ ahead_of self.now }
+    {
+        match self.hart.fetch_need() {
+            Fetch::At(pc) => {
+                if self.lacks(pc, Mode::Read) {
+                    return Ahead::Wants(page_of(pc), Mode::Read);
+                }
+                let word = self.word_held(pc);
+                self.data_ahead(self.hart.data_need(word))
+            }
+            Fetch::Interrupt | Fetch::Fault => Ahead::Free,
+        }
+    }
+
+    /// The word at the pc; None exactly where the next move fetches none, or its page isn't held.
+    pub fn word(&self) -> Option<u32>
+        ensures word { result ≡ word_of self.now }
+    {
+        match self.hart.fetch_need() {
+            Fetch::At(pc) => {
+                if self.lacks(pc, Mode::Read) {
+                    return None;
+                }
+                Some(self.word_held(pc))
+            }
+            Fetch::Interrupt | Fetch::Fault => None,
+        }
+    }
+
+    /// The page as the hart holds it; None exactly where it doesn't hold it.
+    pub fn frame(&self, page: u32) -> Option<&Page>
+        ensures frame { FrameOf self.now page (option_copied result) }
+    {
+        match self.held.get(page as usize) {
+            Some(Some(_)) => Some(self.frames.page(page)),
+            _ => None,
+        }
+    }
+
+    /// The most in which the next move is known to need the page: for its data only where the page that it
+    /// fetches from is held.
+    pub fn claim(&self, page: u32) -> Option<Mode>
+        ensures claim { result ≡ claim_of self.now page }
+    {
+        match self.hart.fetch_need() {
+            Fetch::At(pc) => {
+                let fetch = needed_at(pc, Mode::Read, page);
+                if self.lacks(pc, Mode::Read) {
+                    return fetch;
+                }
+                let word = self.word_held(pc);
+                stronger(fetch, needed_for(self.hart.data_need(word), page))
+            }
+            Fetch::Interrupt | Fetch::Fault => None,
+        }
+    }
+
+    /// Makes the move of a fetched word, where it asks for nothing.
+    #[tactic(auto, using(crate::proofs::Aheads::ahead_of_word))]
+    fn execute(&mut self, word: u32) -> Ahead
+        requires word { word_of self.old ≡ Some word }
+        requires count { self.old.count < 2 ^ 64 - 1 }
+        ensures ahead { result ≡ ahead_of self.old }
+        ensures made { Steps self.old self.new result }
+    {
+        let effect = self.hart.effect(word);
+        let need = effect.need();
+        let ahead = self.data_ahead(need);
+        if ahead != Ahead::Free {
+            return ahead;
+        }
+        let loaded = match need {
+            Need::Load(at) | Need::Exclusive(at) => self.word_held(at),
+            Need::Store(_) | Need::Device(_) | Need::Nothing => 0,
+        };
+        let wrote = self.hart.make(effect, loaded);
+        self.store(wrote);
+        self.count += 1;
+        Ahead::Free
+    }
+
+    /// Makes the next move, where it asks for nothing.
+    fn step(&mut self) -> Ahead
+        requires { self.old.count < 2 ^ 64 - 1 }
+        ensures ahead { result ≡ ahead_of self.old }
+        ensures made { Steps self.old self.new result }
+    {
+        match self.hart.fetch_need() {
+            Fetch::At(pc) => {
+                if self.lacks(pc, Mode::Read) {
+                    return Ahead::Wants(page_of(pc), Mode::Read);
+                }
+                let word = self.word_held(pc);
+                self.execute(word)
+            }
+            Fetch::Interrupt | Fetch::Fault => {
+                self.hart.enter();
+                self.count += 1;
+                Ahead::Free
+            }
+        }
+    }
+
+    /// Moves on held pages while the count is below `until`.
+    pub fn advance(&mut self, until: u64) -> Pause
+        requires { self.old.count ≤ until }
+        ensures pause { AheadAt self.new until result }
+        ensures kept { KeepsPages self.old self.new }
+        ensures leg { (h : ℕ) (s : Replay FlatState) → IsCrewState board s → Agrees self.old h s → MakesLeg self.new result h until s }
+    {
+        while self.count < until {
+            match self.step() {
+                Ahead::Free => {}
+                Ahead::Wants(page, mode) => return Pause::Wants(page, mode),
+                Ahead::AtDevice(access) => return Pause::AtDevice(access),
+            }
+        }
+        Pause::Due
+    }
+
+    /// The move of the device access that is next, with the device's answer.
+    pub fn touched(&mut self, loaded: u32)
+        requires device { IsAtDevice (ahead_of self.old) }
+        requires count { self.old.count < 2 ^ 64 - 1 }
+        ensures touched { self.new ≡ touched_by self.old loaded }
+    {
+        if let Fetch::At(pc) = self.hart.fetch_need() {
+            let word = self.word_held(pc);
+            let _ = self.hart.finish(word, loaded);
+        }
+        self.count += 1;
+    }
+
+    /// Sets the hart's lines: bit 0 software, bit 1 timer.
+    pub fn set_lines(&mut self, lines: u8)
+        requires { lines < 4 }
+        ensures lines { self.new ≡ record self.old { hart = record self.old.hart { csrs = with_lines lines self.old.hart.csrs } } }
+    {
+        self.hart.set_lines(lines);
+    }
+
+    /// Holds a page in a mode from now on: in Write its box is exchanged for the spare frame, in Read its
+    /// bytes are copied.
+    pub fn take_page(&mut self, page: u32, mode: Mode, store: &mut PageStore)
+        requires page { page < length self.old.frames.pages }
+        requires less { strength (hold_of self.old page) < strength (Some mode) }
+        requires unit { store.old.unit ≡ self.old.frames.unit }
+        requires pages { length store.old.pages ≡ length self.old.frames.pages }
+        ensures run { self.new ≡ taken self.old page mode store.old }
+        ensures store { store.new ≡ store_taken self.old page mode store.old }
+    {
+        match mode {
+            Mode::Read => self.frames.fill(page, store.page(page).bytes()),
+            Mode::Write => self.frames.exchange_with(page, store),
+        }
+        self.held[page as usize] = Some(mode);
+    }
+
+    /// Keeps only what is left of a page, and gives the store its bytes where it was held in Write. True
+    /// exactly where the reservation stood in the page, and so ended.
+    pub fn give_page(&mut self, page: u32, left: Option<Mode>, store: &mut PageStore) -> bool
+        requires page { page < length self.old.frames.pages }
+        requires less { strength left < strength (hold_of self.old page) }
+        requires unit { store.old.unit ≡ self.old.frames.unit }
+        requires pages { length store.old.pages ≡ length self.old.frames.pages }
+        ensures run { self.new ≡ given self.old page left store.old }
+        ensures store { store.new ≡ store_given self.old page (hold_of self.old page) store.old }
+        ensures answer { result ≡ ends_with self.old page }
+    {
+        let was = self.held[page as usize];
+        if was == Some(Mode::Write) {
+            self.give_bytes(page, left, store);
+        }
+        self.held[page as usize] = left;
+        let ends = was == Some(Mode::Write) && self.is_reserved_in(page);
+        if ends {
+            self.hart.lose();
+        }
+        ends
+    }
+
+    /// Whether the reservation stands in the page.
+    fn is_reserved_in(&self, page: u32) -> bool
+        ensures { result ≡ is_number page (option_map (page_at self.now.frames.unit) self.now.hart.reserved) }
+    {
+        match self.hart.reserved() {
+            Some(at) => at.saturating_sub(0x8000_0000) / UNIT == page,
+            None => false,
+        }
+    }
+
+    /// Gives the store the bytes of a page that was held in Write: its box, or a copy where some of it is
+    /// left.
+    fn give_bytes(&mut self, page: u32, left: Option<Mode>, store: &mut PageStore)
+        requires page { page < length self.old.frames.pages }
+        requires unit { store.old.unit ≡ self.old.frames.unit }
+        requires pages { length store.old.pages ≡ length self.old.frames.pages }
+        ensures run { self.new ≡ record self.old { frames = frames_given self.old page (Some Write) left store.old } }
+        ensures store { store.new ≡ store_given self.old page (Some Write) store.old }
+    {
+        match left {
+            None => self.frames.exchange_with(page, store),
+            Some(_) => store.fill(page, self.frames.page(page).bytes()),
+        }
+    }
+
+    /// Writes to its frame what a move wrote.
+    fn store(&mut self, wrote: Wrote)
+        requires { WritesInMemory self.old.hart.pages wrote }
+        ensures { self.new ≡ record self.old { frames = stored_in self.old.frames wrote } }
+    {
+        if let Wrote::Bytes { at, size, value } = wrote {
+            let place = (at - 0x8000_0000) % UNIT;
+            self.frames.store(page_of(at), place as u16, size, value);
+        }
+    }
+}
