@@ -20,7 +20,7 @@ use Rattle.rv_hart.specs.declared.effect.Fetch.{Fetch}
 use Rattle.rv_hart.specs.declared.effect.Fetch.TheVariants as fetch
 use Rattle.rv_hart.specs.declared.effect.Need.{Need}
 use Rattle.rv_hart.specs.declared.effect.Need.TheVariants as need
-use Rattle.guest_pages.specs.Pages.{bytes_of}
+use Rattle.guest_pages.specs.Pages.{bytes_of, page_of}
 use Rattle.guest_pages.proofs.Agree.{words_agree}
 use Rattle.flat_machine.specs.State.{FlatState}
 use Rattle.flat_machine.specs.Moves.{fetched, fetched_by, move_of, next_move, word_round, access_of, loaded_for, place_in_memory}
@@ -28,8 +28,8 @@ use Rattle.log_entry.specs.Parts.{strength}
 use Rattle.replay_model.specs.Board.{board, unit, hart_access, next_access}
 use Rattle.replay_model.specs.Holders.{held}
 use Rattle.replay_model.specs.State.{Replay, want}
-use Rattle.hart_run.specs.Run.{Run, hold_of, lacks, word_held, word_of, fetched_from, data_ahead, asked_of, ahead_from, ahead_of, known_from, claim_of, most_needed}
-use Rattle.hart_run.specs.Agreement.{Agrees, Asks, IsAhead, holds_fetch, word_seen, pages_known}
+use Rattle.hart_run.specs.Run.{Run, hold_of, lacks, word_held, word_of, fetched_from, data_ahead, asked_of, ahead_from, ahead_of, known_from, claim_of, most_needed, FrameOf}
+use Rattle.hart_run.specs.Agreement.{Agrees, Asks, IsAhead, PageOf, holds_fetch, word_seen, pages_known}
 use Rattle.hart_run.specs.declared.run.Ahead.{Ahead}
 use Rattle.hart_run.specs.declared.run.Ahead.TheVariants.{Free, Wants, AtDevice}
 use Rattle.hart_run.proofs.Addresses.{word_place, word_fits, word_above}
@@ -170,3 +170,12 @@ pub claim_agrees : (r : Run) (h : ℕ) (s : Replay FlatState) (page : ℕ) → A
 claim_agrees r h s page a =
     ap (most_needed page) (fetch_known r h s a (fetch_of r.hart) refl
     ∙ ap (λ u. cond (holds_fetch s h (fetch_of r.hart)) (pages_needed u r.hart (fetched r.hart s.flat.memory)) (take 1 (pages_needed u r.hart (fetched r.hart s.flat.memory)))) a.unit_is)
+
+pub frame_agrees : (r : Run) (h : ℕ) (s : Replay FlatState) (page : ℕ) (o : Option (List ℕ)) → Agrees r h s → FrameOf r page o → PageOf s h page o
+frame_agrees r h s page None a f = a.modes page ∙ f
+frame_agrees r h s page (Some bytes) a f =
+    (ap is_some (a.modes page) ∙ f.0, f.1 ∙ sym (a.bytes page f.0) ∙ ap (λ u. page_of u s.flat.memory page) a.unit_is)
+
+-- the same, of answers
+pub ahead_answer : (r : Run) (o : Ahead) → o ≡ ahead_of r → (h : ℕ) (s : Replay FlatState) → Agrees r h s → IsAhead h s o
+ahead_answer r o e h s a = subst (IsAhead h s) (sym e) (ahead_agrees r h s a)

@@ -6,3 +6,5 @@ pub mod Agreed
 pub mod Moved
 pub mod Stepped
 pub mod Led
+pub mod Handed
+pub mod Begun

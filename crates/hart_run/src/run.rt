@@ -3,21 +3,21 @@
 ghost use Rattle.std.specs.Option.{option_copied, option_map};
 ghost use Rattle.order_rules.specs.Places.{is_number};
 ghost use Rattle.std.specs.Prelude.{ℕ, ◌≡◌, ◌≢◌, ◌+◌, ◌-◌, ◌*◌, ◌/◌, ◌%◌, ◌^◌, ◌<◌, ◌≤◌, ◌∷◌, [], find, length, slice_get, false, None, Some, IsSome, MatchOption, IfOk};
-ghost use Rattle.rv_words.specs.declared.shared.Mode.TheVariants.{Read, Write};
+ghost use Rattle.rv_words.specs.declared.shared.Mode.TheVariants.{Read};
 ghost use Rattle.rv_hart.specs.Effects.{effect_of};
-ghost use Rattle.rv_hart.specs.Moves.{after, need_of};
+ghost use Rattle.rv_hart.specs.Moves.{after, need_of, with_csrs};
 ghost use Rattle.rv_hart.specs.Needs.{page_at, data_pages};
 ghost use Rattle.rv_hart.specs.Places.{WordInMemory, NeedIsThere, WritesInMemory};
 ghost use Rattle.rv_csr.specs.Traps.{with_lines};
 ghost use Rattle.log_entry.specs.Parts.{strength};
 ghost use Rattle.flat_machine.specs.State.{FlatState};
-ghost use Rattle.flat_machine.specs.Acts.{with_lines_of};
+ghost use Rattle.flat_machine.specs.Moves.{next_move};
 ghost use Rattle.replay_model.specs.Board.{board};
 ghost use Rattle.replay_model.specs.State.{Replay, IsCrewState};
-ghost use Rattle.hart_run.specs.Agreement.{Agrees, IsAhead, word_seen, pages_known};
+ghost use Rattle.hart_run.specs.Agreement.{Agrees, IsAhead, IsFirst, PageOf, StoreHas, Yields, word_seen, pages_known, with_hart, with_move, with_page_held};
 ghost use Rattle.hart_run.specs.Legs.{KeepsPages, MakesLeg};
 ghost use Rattle.hart_run.specs.Run as runs;
-ghost use Rattle.hart_run.specs.Run.{run_at_start, hold_of, lacks, word_held, word_of, move_held, data_ahead, ahead_of, moved_by, stored_in, stronger, needed_in, most_needed, claim_of, IsAbove, taken, store_taken, given, store_given, frames_given, ends_with, touched_by, FrameOf, Steps, IsAtDevice, AheadAt};
+ghost use Rattle.hart_run.specs.Run.{run_at_start, hold_of, lacks, word_held, word_of, move_held, data_ahead, ahead_of, moved_by, stored_in, stronger, needed_in, most_needed, claim_of, IsAbove, taken, store_taken, given, store_given, frames_given, hart_given, ends_with, touched_by, FrameOf, Steps, IsAtDevice, AheadAt};
 
 use elf_image::Image;
 use guest_pages::{Page, PageStore};
@@ -122,7 +122,8 @@ impl HartRun {
     /// A run at its hart's start, on a board with so many harts.
     pub fn start(alloc: Global, id: u8, harts: u8, image: &Image) -> Result<HartRun, NoMemory>
         requires { id < harts }
-        ensures { IfOk result (λ r. r ≡ run_at_start id harts image.now) }
+        ensures run { IfOk result (λ r. r ≡ run_at_start id harts image.now) }
+        ensures agrees { IfOk result (λ r. (s : Replay FlatState) → IsFirst image.now harts s → Agrees r id s) }
     {
         let number = image.bytes().len() / usize::from(image.unit());
         let Ok(held) = Vec::from_elem(alloc, None, number) else {
@@ -197,6 +198,7 @@ impl HartRun {
     /// What the next move asks for, without making it.
     pub fn ahead(&self) -> Ahead
         ensures ahead { result ≡ ahead_of self.now }
+        ensures agrees { (h : ℕ) (s : Replay FlatState) → Agrees self.now h s → IsAhead h s result }
     {
         match self.hart.fetch_need() {
             Fetch::At(pc) => {
@@ -213,6 +215,7 @@ impl HartRun {
     /// The word at the pc; None exactly where the next move fetches none, or its page isn't held.
     pub fn word(&self) -> Option<u32>
         ensures word { result ≡ word_of self.now }
+        ensures agrees { (h : ℕ) (s : Replay FlatState) → Agrees self.now h s → result ≡ word_seen s h self.now.hart }
     {
         match self.hart.fetch_need() {
             Fetch::At(pc) => {
@@ -228,6 +231,7 @@ impl HartRun {
     /// The page as the hart holds it; None exactly where it doesn't hold it.
     pub fn frame(&self, page: u32) -> Option<&Page>
         ensures frame { FrameOf self.now page (option_copied result) }
+        ensures agrees { (h : ℕ) (s : Replay FlatState) → Agrees self.now h s → PageOf s h page (option_copied result) }
     {
         match self.held.get(page as usize) {
             Some(Some(_)) => Some(self.frames.page(page)),
@@ -239,6 +243,7 @@ impl HartRun {
     /// fetches from is held.
     pub fn claim(&self, page: u32) -> Option<Mode>
         ensures claim { result ≡ claim_of self.now page }
+        ensures agrees { (h : ℕ) (s : Replay FlatState) → Agrees self.now h s → result ≡ most_needed page (pages_known s h self.now.hart) }
     {
         match self.hart.fetch_need() {
             Fetch::At(pc) => {
@@ -321,6 +326,7 @@ impl HartRun {
         requires device { IsAtDevice (ahead_of self.old) }
         requires count { self.old.count < 2 ^ 64 - 1 }
         ensures touched { self.new ≡ touched_by self.old loaded }
+        ensures agrees { (h : ℕ) (s : Replay FlatState) → Agrees self.old h s → Agrees self.new h (with_move h (after self.old.hart (next_move self.old.hart s.flat.memory) loaded) s) }
     {
         if let Fetch::At(pc) = self.hart.fetch_need() {
             let word = self.word_held(pc);
@@ -332,7 +338,8 @@ impl HartRun {
     /// Sets the hart's lines: bit 0 software, bit 1 timer.
     pub fn set_lines(&mut self, lines: u8)
         requires { lines < 4 }
-        ensures lines { self.new ≡ record self.old { hart = record self.old.hart { csrs = with_lines lines self.old.hart.csrs } } }
+        ensures lines { self.new ≡ record self.old { hart = with_csrs (with_lines lines self.old.hart.csrs) self.old.hart } }
+        ensures agrees { (h : ℕ) (s : Replay FlatState) → Agrees self.old h s → Agrees self.new h (with_hart h (with_csrs (with_lines lines self.old.hart.csrs) self.old.hart) s) }
     {
         self.hart.set_lines(lines);
     }
@@ -346,6 +353,7 @@ impl HartRun {
         requires pages { length store.old.pages ≡ length self.old.frames.pages }
         ensures run { self.new ≡ taken self.old page mode store.old }
         ensures store { store.new ≡ store_taken self.old page mode store.old }
+        ensures agrees { (h : ℕ) (s : Replay FlatState) → Agrees self.old h s → StoreHas store.old page s → Agrees self.new h (with_page_held h page (Some mode) s) }
     {
         match mode {
             Mode::Read => self.frames.fill(page, store.page(page).bytes()),
@@ -364,13 +372,22 @@ impl HartRun {
         ensures run { self.new ≡ given self.old page left store.old }
         ensures store { store.new ≡ store_given self.old page (hold_of self.old page) store.old }
         ensures answer { result ≡ ends_with self.old page }
+        ensures agrees { (h : ℕ) (s : Replay FlatState) → Agrees self.old h s → Yields self.new store.new h page left result s }
     {
-        let was = self.held[page as usize];
-        if was == Some(Mode::Write) {
-            self.give_bytes(page, left, store);
-        }
+        let ends = self.lose_with(page);
+        self.give_bytes(page, left, store);
         self.held[page as usize] = left;
-        let ends = was == Some(Mode::Write) && self.is_reserved_in(page);
+        ends
+    }
+
+    /// Ends the reservation where it stands in this page, which is given up. It stands only in a page that
+    /// is held in Write.
+    fn lose_with(&mut self, page: u32) -> bool
+        requires { page < length self.old.frames.pages }
+        ensures hart { self.new ≡ record self.old { hart = hart_given self.old page } }
+        ensures answer { result ≡ ends_with self.old page }
+    {
+        let ends = self.held[page as usize] == Some(Mode::Write) && self.is_reserved_in(page);
         if ends {
             self.hart.lose();
         }
@@ -387,18 +404,19 @@ impl HartRun {
         }
     }
 
-    /// Gives the store the bytes of a page that was held in Write: its box, or a copy where some of it is
+    /// Gives the store the bytes of a page that is held in Write: its box, or a copy where some of it is
     /// left.
     fn give_bytes(&mut self, page: u32, left: Option<Mode>, store: &mut PageStore)
         requires page { page < length self.old.frames.pages }
         requires unit { store.old.unit ≡ self.old.frames.unit }
         requires pages { length store.old.pages ≡ length self.old.frames.pages }
-        ensures run { self.new ≡ record self.old { frames = frames_given self.old page (Some Write) left store.old } }
-        ensures store { store.new ≡ store_given self.old page (Some Write) store.old }
+        ensures run { self.new ≡ record self.old { frames = frames_given self.old page (hold_of self.old page) left store.old } }
+        ensures store { store.new ≡ store_given self.old page (hold_of self.old page) store.old }
     {
-        match left {
-            None => self.frames.exchange_with(page, store),
-            Some(_) => store.fill(page, self.frames.page(page).bytes()),
+        match (self.held[page as usize], left) {
+            (Some(Mode::Write), None) => self.frames.exchange_with(page, store),
+            (Some(Mode::Write), Some(_)) => store.fill(page, self.frames.page(page).bytes()),
+            _ => {}
         }
     }
 
