@@ -1,6 +1,6 @@
 -- A run at its start agrees with the start of the flat machine.
-use Rattle.std.proofs.Common.{◌≡◌, ℕ, ◌+◌, ◌*◌, ◌/◌, ◌<◌, ◌≤◌, ◌⊎◌, inl, inr, false, List, [], ◌∷◌, map, length, replicate, get_or, Option, Some, None, slice_get, unwrap_or, true≢false, refl, sym, ap, ap₂, ◌∙◌, subst, arith, zero-add}
-use Rattle.std.specs.Prelude.{IsSome, is_some}
+use Rattle.std.proofs.Common.{◌≡◌, ℕ, ◌*◌, ◌/◌, ◌<◌, inl, inr, false, List, [], map, length, replicate, Option, Some, None, slice_get, unwrap_or, true≢false, sym, ap, ◌∙◌, subst, arith, zero-add}
+use Rattle.std.specs.Prelude.{is_some}
 use Rattle.std.specs.List.{range_with_len}
 use Rattle.std.proofs.lemmas.Bool.{cases_lt}
 use Rattle.std.proofs.lemmas.List.{length-replicate, get_or-replicate}
@@ -10,7 +10,7 @@ use Rattle.rv_words.specs.declared.shared.Mode.{Mode}
 use Rattle.rv_hart.specs.State.{Hart}
 use Rattle.rv_hart.specs.Moves.{hart_at_start}
 use Rattle.elf_image.specs.Image.{Image, IsWhole}
-use Rattle.flat_machine.specs.State.{FlatState, flat_at_start}
+use Rattle.flat_machine.specs.State.{FlatState}
 use Rattle.replay_model.specs.Holders.{held, row, nobody}
 use Rattle.replay_model.specs.State.{Replay}
 use Rattle.hart_run.specs.Run.{Run, hold_of, run_at_start, IsOneRun}

@@ -1,23 +1,17 @@
 -- One move on frames is one Run of the flat machine.
-use Rattle.std.proofs.Common.{◌≡◌, ◌≢◌, ◌⊎◌, inl, inr, ℕ, ◌+◌, ◌-◌, ◌*◌, ◌/◌, ◌%◌, ◌==◌, ◌<◌, ◌≤◌, Bool, true, false, not, cond, List, [], ◌∷◌, ◌++◌, take, map, length, Option, Some, None, find, slice_get, slice_set, slice_index, unwrap_or, refl, sym, ap, ap₂, ◌∙◌, subst, arith}
-use Rattle.std.specs.Prelude.{IsSome, is_some, nat_lt}
+use Rattle.std.proofs.Common.{◌≡◌, ◌⊎◌, inl, inr, ℕ, Bool, true, false, cond, [], ◌∷◌, length, Option, Some, None, find, refl, sym, ap, ap₂, ◌∙◌, subst}
+use Rattle.std.specs.Prelude.{is_some, nat_lt}
 use Rattle.std.specs.Option.{option_map, option_and_then}
-use Rattle.std.specs.Int.{w32, to_le_bytes}
-use Rattle.std.proofs.Math.ListN.{length-take}
-use Rattle.std.proofs.lemmas.Bool.{cases_eq}
-use Rattle.std.proofs.lemmas.Bool.Decides.{eqb_tells}
-use Rattle.std.proofs.lemmas.List.{length-map, length-set}
-use Rattle.std.proofs.lemmas.Option.{slice_get-map}
 use Rattle.rv_words.specs.declared.shared.Access.{Access}
 use Rattle.rv_words.specs.declared.shared.Mode.{Mode}
 use Rattle.rv_words.specs.declared.shared.Mode.TheVariants.{Read, Write}
-use Rattle.rv_words.specs.Memory.{word_at, low_bytes, put}
+use Rattle.rv_words.specs.Memory.{low_bytes}
 use Rattle.rv_csr.specs.Traps.{pending}
 use Rattle.rv_hart.specs.State.{Hart}
-use Rattle.rv_hart.specs.Effects.{effect_of, fetch_of, entry_by, entry_effect}
-use Rattle.rv_hart.specs.Moves.{after, written, need_of, with_reserved}
-use Rattle.rv_hart.specs.Needs.{page_at, data_pages}
-use Rattle.rv_hart.specs.Places.{IsSize, WordInMemory, StoresInMemory}
+use Rattle.rv_hart.specs.Effects.{effect_of, fetch_of, entry_by}
+use Rattle.rv_hart.specs.Moves.{after, written, need_of}
+use Rattle.rv_hart.specs.Needs.{page_at}
+use Rattle.rv_hart.specs.Places.{IsSize, StoresInMemory}
 use Rattle.rv_hart.specs.declared.effect.Effect.{Effect}
 use Rattle.rv_hart.specs.declared.effect.Effect.TheVariants.{Sets, Jumps, Loads, Stores, Reserves, Commits, Fails, Updates, DeviceLoads, DeviceStores, WritesCsr, Returns, Traps}
 use Rattle.rv_hart.specs.declared.effect.Fetch.{Fetch}
@@ -26,26 +20,20 @@ use Rattle.rv_hart.specs.declared.effect.Need.{Need}
 use Rattle.rv_hart.specs.declared.effect.Need.TheVariants as need
 use Rattle.rv_hart.specs.declared.effect.Wrote.{Wrote}
 use Rattle.rv_hart.specs.declared.effect.Wrote.TheVariants as wrote
-use Rattle.guest_pages.specs.Pages.{Pages, page_of, bytes_of, with_page}
-use Rattle.guest_pages.proofs.Agree.{stores_agree}
 use Rattle.flat_machine.specs.State.{FlatState}
-use Rattle.flat_machine.specs.Acts.{moved, ran, next, counted_up}
-use Rattle.flat_machine.specs.Moves.{fetched, fetched_by, move_of, next_move, word_round, access_of, loaded_for, stored_by, lost_by, writes_in, place_in_memory}
-use Rattle.flat_machine.specs.declared.act.Act.TheVariants.{Run as run_act}
-use Rattle.log_entry.specs.Parts.{strength, conflict}
-use Rattle.replay_model.specs.Board.{board, unit, hart_access}
-use Rattle.replay_model.specs.Holders.{held}
+use Rattle.flat_machine.specs.Acts.{moved, ran}
+use Rattle.flat_machine.specs.Moves.{fetched_by, move_of, next_move, word_round, access_of, loaded_for}
+use Rattle.log_entry.specs.Parts.{strength}
+use Rattle.replay_model.specs.Board.{board, hart_access}
 use Rattle.replay_model.specs.Items.{Move, CanGo, verdict_on, made, judged}
-use Rattle.replay_model.specs.State.{Replay, want, IsCrewState}
-use Rattle.hart_run.specs.Run.{Run, hold_of, lacks, word_held, word_of, fetched_from, move_held, data_ahead, asked_of, ahead_from, ahead_of, loaded_held, stored_in, moved_by, IsOneRun}
+use Rattle.replay_model.specs.State.{Replay, want}
+use Rattle.hart_run.specs.Run.{Run, hold_of, lacks, word_held, word_of, fetched_from, move_held, data_ahead, asked_of, ahead_from, ahead_of, loaded_held}
 use Rattle.hart_run.specs.Agreement.{Agrees, Asks}
-use Rattle.hart_run.specs.Legs.{DifferFor}
 use Rattle.hart_run.specs.declared.run.Ahead.{Ahead}
 use Rattle.hart_run.specs.declared.run.Ahead.TheVariants.{Free, Wants, AtDevice}
-use Rattle.hart_run.proofs.Addresses.{word_above, page_below, store_place, store_fits, store_page, one_page}
+use Rattle.hart_run.proofs.Addresses.{word_above}
 use Rattle.hart_run.proofs.Agreed.{is_held, held_word, fetch_above, ahead_agrees}
 use Rattle.hart_run.proofs.Aheads.{ahead_of_word}
-use Rattle.hart_run.proofs.Lists.{set_here, set_there, within, index_is}
 use Rattle.hart_run.proofs.Sound.{DataAreThere, data_are_there, entry_needs_nothing}
 
 -- nothing is wanted: the move is free, or a device access
@@ -68,7 +56,7 @@ fetched_where r h s a fetch.Fault e n = refl
 fetched_where r h s a (fetch.At pc) e n =
     let has = not_lacking (lacks r (page_at r.frames.unit pc, Read)) (page_at r.frames.unit pc) (data_ahead r (need_of (effect_of r.hart (word_held r pc)))) n in
     word_where (lacks r (page_at r.frames.unit pc, Read)) (word_held r pc) (word_round s.flat.memory pc) has
-        (held_word r h s pc a (fetch_above r.hart pc e) (is_held (hold_of r (page_at r.frames.unit pc)) Read has))
+    (held_word r h s pc a (fetch_above r.hart pc e) (is_held (hold_of r (page_at r.frames.unit pc)) Read has))
 
 -- the next move of the hart is that of the run
 pub next_is : (r : Run) (h : ℕ) (s : Replay FlatState) → Agrees r h s → NotWants (ahead_of r) → next_move r.hart s.flat.memory ≡ move_held r
@@ -132,8 +120,8 @@ move_made r h s a f =
     ap (λ o. option_map (λ z. record s { flat = z }) (option_and_then (λ x. ran s.flat h x (next_move x s.flat.memory)) o)) a.hart
     ∙ ap (λ e. option_map (λ z. record s { flat = z }) (ran s.flat h r.hart e)) (next_is r h s a (subst NotWants (sym f) tt))
     ∙ ap (option_map (λ z. record s { flat = z }))
-        (ran_is s.flat h r.hart (move_held r) (loaded_held r (need_of (move_held r))) (no_access r (need_of (move_held r)) (free_data r f))
-            (loaded_is r h s (move_held r) a (there_by r.hart (word_of r)) (free_data r f)))
+    (ran_is s.flat h r.hart (move_held r) (loaded_held r (need_of (move_held r))) (no_access r (need_of (move_held r)) (free_data r f))
+    (loaded_is r h s (move_held r) a (there_by r.hart (word_of r)) (free_data r f)))
 
 goes_by : (w : Option (ℕ × Mode)) (access : Option Access) → Asks w access Free → judged board (option_map (λ (t : ℕ × Bool). t.0) (find (λ (t : ℕ × Bool). t.1) ((1, is_some w) ∷ (2, is_some access) ∷ []))) ≡ CanGo
 goes_by w access (a, b) =

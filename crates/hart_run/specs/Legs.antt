@@ -1,5 +1,5 @@
 -- A private leg: Runs of one hart on pages that it holds (docs/recorder.md).
-use Rattle.std.specs.Prelude.{ℕ, zero, suc, ◌≡◌, ◌≢◌, ◌<◌, ◌≤◌, length, Option, Some, None, slice_get}
+use Rattle.std.specs.Prelude.{ℕ, zero, suc, ◌≡◌, ◌≢◌, ◌<◌, ◌≤◌, length, Some, None, slice_get}
 use Rattle.rv_words.specs.declared.shared.Mode.TheVariants.{Write}
 use Rattle.rv_hart.specs.Places.{SameBoard}
 use Rattle.guest_pages.specs.Pages.{page_of, bytes_of}

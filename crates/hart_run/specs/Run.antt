@@ -1,7 +1,6 @@
 -- A hart's run on frames of its own: what it holds of each page, and what its next move asks for (docs/recorder.md).
 use Rattle.std.specs.Prelude.{ℕ, ◌≡◌, ◌+◌, ◌*◌, ◌/◌, ◌%◌, ◌<◌, ◌≤◌, ◌==◌, ◌&&◌, nat_lt, if◌then◌else◌, Bool, find, length, List, [], ◌∷◌, replicate, slice_get, slice_set, Option, Some, None, IsSome, unwrap_or}
 use Rattle.std.specs.Option.{option_map}
-use Rattle.rv_words.specs.declared.shared.Access.{Access}
 use Rattle.rv_words.specs.declared.shared.Mode.{Mode}
 use Rattle.rv_words.specs.declared.shared.Mode.TheVariants.{Read, Write}
 use Rattle.rv_words.specs.Memory.{word_at, low_bytes, put}

@@ -2,7 +2,7 @@
 
 ghost use Rattle.std.specs.Option.{option_copied, option_map};
 ghost use Rattle.order_rules.specs.Places.{is_number};
-ghost use Rattle.std.specs.Prelude.{ℕ, ◌≡◌, ◌≢◌, ◌+◌, ◌-◌, ◌*◌, ◌/◌, ◌%◌, ◌^◌, ◌<◌, ◌≤◌, ◌∷◌, [], find, length, slice_get, false, None, Some, IsSome, MatchOption, IfOk};
+ghost use Rattle.std.specs.Prelude.{ℕ, ◌≡◌, ◌≢◌, ◌+◌, ◌-◌, ◌*◌, ◌/◌, ◌%◌, ◌^◌, ◌<◌, ◌≤◌, ◌∷◌, [], find, length, nat_lt, slice_get, false, None, Some, IsSome, MatchOption, IfOk};
 ghost use Rattle.rv_words.specs.declared.shared.Mode.TheVariants.{Read};
 ghost use Rattle.rv_hart.specs.Effects.{effect_of};
 ghost use Rattle.rv_hart.specs.Moves.{after, need_of, with_csrs};
@@ -70,31 +70,30 @@ impl Model for HartRun {
     ghost invariant = { λ r. IsOneRun (record { hart = r.hart; count = r.count; held = r.held.items; frames = r.frames }) };
 }
 
-/// How much a hold is worth: nothing, Read, Write.
-fn strength(hold: Option<Mode>) -> u8
-    ensures { result ≡ strength hold }
-{
-    match hold {
-        None => 0,
-        Some(Mode::Read) => 1,
-        Some(Mode::Write) => 2,
-    }
-}
-
-fn page_of(at: u32) -> u32
+fn page_at(at: u32) -> u32
     requires { 0x80000000 ≤ at }
     ensures { result ≡ page_at 4096 at }
 {
     (at - 0x8000_0000) / UNIT
 }
 
+/// Whether a hold is of less than a mode.
+fn is_less(hold: Option<Mode>, mode: Mode) -> bool
+    ensures { result ≡ nat_lt (strength hold) (strength (Some mode)) }
+{
+    !matches!(
+        (hold, mode),
+        (Some(Mode::Write), _) | (Some(Mode::Read), Mode::Read)
+    )
+}
+
+/// The stronger one of two holds.
 fn stronger(one: Option<Mode>, other: Option<Mode>) -> Option<Mode>
     ensures { result ≡ stronger one other }
 {
-    if strength(one) < strength(other) {
-        other
-    } else {
-        one
+    match (one, other) {
+        (Some(Mode::Write), _) | (_, None) => one,
+        _ => other,
     }
 }
 
@@ -103,7 +102,11 @@ fn needed_at(at: u32, mode: Mode, page: u32) -> Option<Mode>
     requires { 0x80000000 ≤ at }
     ensures { result ≡ needed_in page (page_at 4096 at, mode) }
 {
-    if page_of(at) == page { Some(mode) } else { None }
+    if page_at(at) == page {
+        Some(mode)
+    } else {
+        None
+    }
 }
 
 /// The mode in which the data of a move need the page.
@@ -157,7 +160,7 @@ impl HartRun {
         requires { WordInMemory self.now.hart.pages at }
         ensures { result ≡ lacks self.now (page_at self.now.frames.unit at, mode) }
     {
-        strength(self.held[page_of(at) as usize]) < strength(Some(mode))
+        is_less(self.held[page_at(at) as usize], mode)
     }
 
     /// The aligned word round an address, of its frame.
@@ -166,7 +169,7 @@ impl HartRun {
         ensures { result ≡ word_held self.now at }
     {
         let place = (at / 4 * 4 - 0x8000_0000) % UNIT;
-        self.frames.page(page_of(at)).load(place as u16)
+        self.frames.page(page_at(at)).load(place as u16)
     }
 
     /// What an address that is used in a mode asks for.
@@ -176,7 +179,7 @@ impl HartRun {
     {
         let _ = &self.frames;
         if self.lacks(at, mode) {
-            Ahead::Wants(page_of(at), mode)
+            Ahead::Wants(page_at(at), mode)
         } else {
             Ahead::Free
         }
@@ -203,7 +206,7 @@ impl HartRun {
         match self.hart.fetch_need() {
             Fetch::At(pc) => {
                 if self.lacks(pc, Mode::Read) {
-                    return Ahead::Wants(page_of(pc), Mode::Read);
+                    return Ahead::Wants(page_at(pc), Mode::Read);
                 }
                 let word = self.word_held(pc);
                 self.data_ahead(self.hart.data_need(word))
@@ -291,7 +294,7 @@ impl HartRun {
         match self.hart.fetch_need() {
             Fetch::At(pc) => {
                 if self.lacks(pc, Mode::Read) {
-                    return Ahead::Wants(page_of(pc), Mode::Read);
+                    return Ahead::Wants(page_at(pc), Mode::Read);
                 }
                 let word = self.word_held(pc);
                 self.execute(word)
@@ -427,7 +430,10 @@ impl HartRun {
     {
         if let Wrote::Bytes { at, size, value } = wrote {
             let place = (at - 0x8000_0000) % UNIT;
-            self.frames.store(page_of(at), place as u16, size, value);
+            self.frames.store(page_at(at), place as u16, size, value);
         }
     }
 }
+
+#[cfg(test)]
+mod tests;

@@ -33,8 +33,8 @@ returns-in-Wants-clause-leg c h s crew a =
     let test = c.loop-self-test.true in
     let below : c.step.new.self.count < c.args.until = omega (arith, count, same, test) in
     makes_leg c.step.new.self h c.args.until s (pause.Wants c.in-Wants.page c.in-Wants.mode)
-        (subst (λ z. HasLed z h s) (sym c.in-Wants.ensures.made) (c.loop-self.invariant.led h s crew a)) (omega arith)
-        (below, ap ahead_of c.in-Wants.ensures.made ∙ sym c.in-Wants.ensures.ahead)
+    (subst (λ z. HasLed z h s) (sym c.in-Wants.ensures.made) (c.loop-self.invariant.led h s crew a)) (omega arith)
+    (below, ap ahead_of c.in-Wants.ensures.made ∙ sym c.in-Wants.ensures.ahead)
 
 pub returns-in-AtDevice-clause-leg : goal.returns-in-AtDevice-clause-leg
 returns-in-AtDevice-clause-leg c h s crew a =
@@ -43,8 +43,8 @@ returns-in-AtDevice-clause-leg c h s crew a =
     let test = c.loop-self-test.true in
     let below : c.step.new.self.count < c.args.until = omega (arith, count, same, test) in
     makes_leg c.step.new.self h c.args.until s (pause.AtDevice c.in-AtDevice.access)
-        (subst (λ z. HasLed z h s) (sym c.in-AtDevice.ensures.made) (c.loop-self.invariant.led h s crew a)) (omega arith)
-        (below, ap ahead_of c.in-AtDevice.ensures.made ∙ sym c.in-AtDevice.ensures.ahead)
+    (subst (λ z. HasLed z h s) (sym c.in-AtDevice.ensures.made) (c.loop-self.invariant.led h s crew a)) (omega arith)
+    (below, ap ahead_of c.in-AtDevice.ensures.made ∙ sym c.in-AtDevice.ensures.ahead)
 
 pub returns-clause-leg : goal.returns-clause-leg
 returns-clause-leg c h s crew a =
