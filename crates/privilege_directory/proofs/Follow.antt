@@ -59,7 +59,7 @@ waits_still_follow log yields numbers h i page k e kept at is number follow q g 
     elim (cases_eq q page) [
       | inl same ↦
           subst (λ z. waits_due log z g (slice_index (slice_set numbers page (k + 1)) z) ≡ by_others g (unwrap_or (slice_get (slice_set yields page (yields_after h e (unwrap_or (slice_get yields page) []))) z) [])) (sym same)
-              (on_page log yields numbers h g page k e (numbers_name log h i page k e kept at is) number follow (subst (λ z. z < length yields) same inside))
+          (on_page log yields numbers h g page k e (numbers_name log h i page k e kept at is) number follow (subst (λ z. z < length yields) same inside))
       | inr n ↦
           ap (waits_due log q g) (index_there numbers page q (k + 1) n) ∙ follow q g inside
           ∙ ap (λ o. by_others g (unwrap_or o [])) (sym (set_there yields page q (yields_after h e (unwrap_or (slice_get yields page) [])) n))

@@ -113,7 +113,7 @@ few_yielded holds yields h count left few l less =
                 (rw (others_and_own h count yields, set_twice holds h left None) (few.others h l))
             | inr n ↦
                 let longer : length (by_others g (yields ++ record { hart = h; count = count } ∷ [])) ≡ length (by_others g yields) + 1 =
-                    ap length (others_and_one h g count yields n) ∙ length-append (by_others g yields) (record { hart = h; count = count } ∷ []) in
+                ap length (others_and_one h g count yields n) ∙ length-append (by_others g yields) (record { hart = h; count = count } ∷ []) in
                 let without = weight-set holds g None inside in
                 let then_without = weight-set (slice_set holds h left) g None m in
                 let same : strength (hold (slice_set holds h left) g) ≡ strength (hold holds g) = ap strength (hold_set_other holds h g left n) in
@@ -153,10 +153,10 @@ few_gained Read holds h most l none =
     let size : length (slice_set holds h (Some Read)) ≡ length holds = length-set holds h (Some Read) in
     let each = λ (g : ℕ) (m : g < length (slice_set holds h (Some Read))). read_one holds h g l none (omega (arith, m, size)) in
     few_after (slice_set holds h (Some Read))
-        (let w = ones (slice_set holds h (Some Read)) each in omega (arith, w, size))
-        (λ g m. let w = less_one (slice_set holds h (Some Read)) g each m in omega (arith, w, size))
+    (let w = ones (slice_set holds h (Some Read)) each in omega (arith, w, size))
+    (λ g m. let w = less_one (slice_set holds h (Some Read)) g each m in omega (arith, w, size))
 few_gained Write holds h most l none =
-        let alone : weight (slice_set holds h None) ≡ 0 = zeros (slice_set holds h None) (λ g m. elim (cases_eq g h) [
+    let alone : weight (slice_set holds h None) ≡ 0 = zeros (slice_set holds h None) (λ g m. elim (cases_eq g h) [
       | inl e ↦ ap (hold (slice_set holds h None)) e ∙ hold_set_same holds h None l
       | inr n ↦ hold_set_other holds h g None n ∙ beside_write (hold holds g) (none g (omega (arith, m, length-set holds h None)) n)
     ]) in

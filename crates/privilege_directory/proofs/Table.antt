@@ -81,7 +81,7 @@ held_of_nobody : (pages harts page g : ℕ) → held (replicate pages (replicate
 held_of_nobody pages harts page g = elim (cases_lt page pages) [
   | inl l ↦
       let r : row (replicate pages (replicate harts None)) page ≡ replicate harts None =
-          unwrap_or-slice_get (replicate pages (replicate harts None)) page [] ∙ get_or-replicate pages page (replicate harts None) [] l in
+      unwrap_or-slice_get (replicate pages (replicate harts None)) page [] ∙ get_or-replicate pages page (replicate harts None) [] l in
       ap (λ z. hold z g) r ∙ hold_of_nobody harts g
   | inr m ↦
       ap (λ o. hold (unwrap_or o []) g) (slice_get_past (replicate pages (replicate harts None)) page (omega (arith, m, length-replicate {A = List (Option Mode)} pages (replicate harts None))))
@@ -137,7 +137,7 @@ start_sound harts pages most =
       few = λ page l.
           let inside : page < pages = omega (arith, l, long) in
           let r : row (replicate pages (replicate harts None)) page ≡ replicate harts None =
-              unwrap_or-slice_get (replicate pages (replicate harts None)) page [] ∙ get_or-replicate pages page (replicate harts None) [] inside in
+          unwrap_or-slice_get (replicate pages (replicate harts None)) page [] ∙ get_or-replicate pages page (replicate harts None) [] inside in
           let y : yields_of (directory_at_start harts pages) page ≡ [] = unwrap_or-slice_get (replicate pages []) page [] ∙ get_or-replicate pages page [] [] inside in
           subst (λ z. AreFew z (yields_of (directory_at_start harts pages) page)) (sym r) (subst (λ z. AreFew (replicate harts None) z) (sym y) (nobody_few harts most));
     }
@@ -177,7 +177,7 @@ changed_sound d h page n left ys sound hl pl fits few =
             | inl e ↦
                 let r : row (with_held d.holders page h left) q ≡ slice_set (row d.holders page) h left = ap (row (with_held d.holders page h left)) e ∙ row_here d.holders page h left pl in
                 let y : unwrap_or (slice_get (slice_set d.yields page ys) q) [] ≡ ys =
-                    ap (λ k. unwrap_or (slice_get (slice_set d.yields page ys) k) []) e ∙ ap (λ o. unwrap_or o []) (set_here d.yields page ys (omega (arith, pl, sound.yields_size))) in
+                ap (λ k. unwrap_or (slice_get (slice_set d.yields page ys) k) []) e ∙ ap (λ o. unwrap_or o []) (set_here d.yields page ys (omega (arith, pl, sound.yields_size))) in
                 subst (λ z. AreFew z (unwrap_or (slice_get (slice_set d.yields page ys) q) [])) (sym r) (subst (λ z. AreFew (slice_set (row d.holders page) h left) z) (sym y) few)
             | inr m ↦
                 let y : unwrap_or (slice_get (slice_set d.yields page ys) q) [] ≡ yields_of d q = ap (λ o. unwrap_or o []) (set_there d.yields page q ys m) in
@@ -191,14 +191,14 @@ gained_sound d h page mode sound hl pl allowed =
     let none : NoneAgainst (row d.holders page) h mode = λ g l n. none_against d h page mode allowed g (omega (arith, l, size)) n in
     let most = sound.harts in
     changed_sound d h page (slice_index d.numbers page + 1) (Some mode) [] sound hl pl (fits_gain d h page mode sound pl allowed)
-        (few_gained mode (row d.holders page) h (omega (arith, size, most)) (omega (arith, hl, size)) none)
+    (few_gained mode (row d.holders page) h (omega (arith, size, most)) (omega (arith, hl, size)) none)
 
 pub yielded_sound : (d : Directory) (h page count : ℕ) (left : Option Mode) → IsSound d → h < length d.wants → page < length d.holders → strength left < strength (held d.holders page h) → IsSound (yielded d h page count left)
 yielded_sound d h page count left sound hl pl less =
     let size = row_size d page sound pl in
     changed_sound d h page (slice_index d.numbers page + 1) left (yields_of d page ++ record { hart = h; count = count } ∷ []) sound hl pl
-        (λ g n. less_conflict left (held d.holders page h) (held d.holders page g) less (sound.crew page h g (λ e. n (sym e))))
-        (few_yielded (row d.holders page) (yields_of d page) h count left (sound.few page pl) (omega (arith, hl, size)) less)
+    (λ g n. less_conflict left (held d.holders page h) (held d.holders page g) less (sound.crew page h g (λ e. n (sym e))))
+    (few_yielded (row d.holders page) (yields_of d page) h count left (sound.few page pl) (omega (arith, hl, size)) less)
 
 -- there is room for a Yield
 pub room_to_yield : (d : Directory) (h page : ℕ) (left : Option Mode) → IsSound d → h < length d.wants → page < length d.holders → strength left < strength (held d.holders page h) → length (yields_of d page) < MAX_HARTS
@@ -230,5 +230,5 @@ yielded_view d e h page n count left r r' y ys same pl nl yl read wrote number t
     ap (λ z. record d { holders = slice_set d.holders page z; numbers = slice_set d.numbers page (n + 1); yields = slice_set d.yields page ys }) (wrote ∙ ap (λ z. slice_set z h left) (sym row_is))
     ∙ ap (λ z. record d { holders = with_held d.holders page h left; numbers = slice_set d.numbers page (z + 1); yields = slice_set d.yields page ys }) number_is
     ∙ ap (λ z. record d { holders = with_held d.holders page h left; numbers = slice_set d.numbers page (slice_index d.numbers page + 1); yields = slice_set d.yields page z })
-        (more ∙ ap (λ z. z ++ record { hart = h; count = count } ∷ []) (sym yields_are))
+    (more ∙ ap (λ z. z ++ record { hart = h; count = count } ∷ []) (sym yields_are))
     ∙ ap (λ z. yielded z h page count left) same

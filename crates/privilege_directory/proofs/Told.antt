@@ -9,8 +9,8 @@ use Rattle.privilege_directory.proofs.Holds.{others_and_one}
 few_so_far : (xs : List WaitFor) (i h : ℕ) → length (by_others h (take i xs)) ≤ length (by_others h xs)
 few_so_far xs i h =
     let both : length (by_others h xs) ≡ length (by_others h (take i xs)) + length (by_others h (drop i xs)) =
-        ap (λ ys. length (by_others h ys)) (sym (take-append-drop i xs)) ∙ ap length (filter-append (λ (w : WaitFor). not (w.hart == h)) (take i xs) (drop i xs))
-        ∙ length-append (by_others h (take i xs)) (by_others h (drop i xs)) in
+    ap (λ ys. length (by_others h ys)) (sym (take-append-drop i xs)) ∙ ap length (filter-append (λ (w : WaitFor). not (w.hart == h)) (take i xs) (drop i xs))
+    ∙ length-append (by_others h (take i xs)) (by_others h (drop i xs)) in
     omega (arith, both)
 
 pub others_more : (xs : List WaitFor) (i h : ℕ) (d : WaitFor) → i < length xs → (get_or xs i d).hart ≢ h → by_others h (take (i + 1) xs) ≡ by_others h (take i xs) ++ get_or xs i d ∷ []

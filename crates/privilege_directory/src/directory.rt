@@ -5,7 +5,7 @@ ghost use Rattle.log_entry.specs.Parts.{strength};
 ghost use Rattle.replay_model.specs.Holders.{held, row, IsCrew};
 ghost use Rattle.privilege_directory.specs.Directory.{directory_at_start, clash_of, may_gain, by_others, yields_of, gained, yielded};
 
-use crate::row::{Row, strength};
+use crate::row::{Row, is_less};
 use crate::yields::Yields;
 use log_entry::{WaitFor, Waits};
 use rv_words::{MAX_HARTS, Mode};
@@ -91,8 +91,7 @@ impl Directory {
         requires page { page < length self.now.holders }
         ensures { result ≡ may_gain self.now hart page mode }
     {
-        self.clash(hart, page, mode).is_none()
-            && strength(self.holds(hart, page)) < strength(Some(mode))
+        self.clash(hart, page, mode).is_none() && is_less(self.holds(hart, page), mode)
     }
 
     /// The hart holds the page in this mode from now on. It gives the number of this Gain, and fills

@@ -1,6 +1,6 @@
 //! What each hart holds of one page.
 
-ghost use Rattle.std.specs.Prelude.{◌≡◌, ◌==◌, ◌&&◌, ◌<◌, ◌≤◌, not, find, length, replicate, slice_get, slice_set, unwrap_or, None, Some, IfOk};
+ghost use Rattle.std.specs.Prelude.{◌≡◌, ◌==◌, ◌&&◌, ◌<◌, ◌≤◌, not, find, length, nat_lt, replicate, slice_get, slice_set, unwrap_or, None, Some, IfOk};
 ghost use Rattle.std.specs.List.{range_with_len};
 ghost use Rattle.log_entry.specs.Parts.{strength, conflict};
 
@@ -9,15 +9,14 @@ use shared_types::NoMemory;
 use std::alloc::Global;
 use std::marker::Model;
 
-/// How much a hold is worth: nothing, Read, Write.
-pub(crate) fn strength(hold: Option<Mode>) -> u8
-    ensures { result ≡ strength hold }
+/// Whether a hold is of less than a mode.
+pub(crate) fn is_less(hold: Option<Mode>, mode: Mode) -> bool
+    ensures { result ≡ nat_lt (strength hold) (strength (Some mode)) }
 {
-    match hold {
-        None => 0,
-        Some(Mode::Read) => 1,
-        Some(Mode::Write) => 2,
-    }
+    !matches!(
+        (hold, mode),
+        (Some(Mode::Write), _) | (Some(Mode::Read), Mode::Read)
+    )
 }
 
 fn conflict(mode: Mode, hold: Option<Mode>) -> bool

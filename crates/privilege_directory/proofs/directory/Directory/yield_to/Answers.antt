@@ -24,7 +24,7 @@ invariant_of-self c =
     let numbers : c.args.page < length d.numbers = omega (arith, page, c.self.invariant.numbers_size) in
     let yields : c.args.page < length d.yields = omega (arith, page, c.self.invariant.yields_size) in
     let view = yielded_view d d c.args.hart c.args.page c.index-number.result.now c.args.count c.args.left c.index_mut-2.result.now c.set.new.self c.index_mut.result.now c.push.new.self refl page numbers yields
-        c.index_mut-2.ensures.value c.set.ensures c.index-number.ensures c.index_mut.ensures.value c.push.ensures in
+    c.index_mut-2.ensures.value c.set.ensures c.index-number.ensures c.index_mut.ensures.value c.push.ensures in
     subst IsSound (sym view) (yielded_sound d c.args.hart c.args.page c.args.count c.args.left c.self.invariant hart page less)
 
 pub returns-clause-directory : goal.returns-clause-directory
@@ -34,7 +34,7 @@ returns-clause-directory c =
     let numbers : c.args.page < length d.numbers = omega (arith, page, c.self.invariant.numbers_size) in
     let yields : c.args.page < length d.yields = omega (arith, page, c.self.invariant.yields_size) in
     yielded_view d c.args.self.now c.args.hart c.args.page c.index-number.result.now c.args.count c.args.left c.index_mut-2.result.now c.set.new.self c.index_mut.result.now c.push.new.self c.self.view_is page numbers yields
-        c.index_mut-2.ensures.value c.set.ensures c.index-number.ensures c.index_mut.ensures.value c.push.ensures
+    c.index_mut-2.ensures.value c.set.ensures c.index-number.ensures c.index_mut.ensures.value c.push.ensures
 
 pub returns-clause-crew : goal.returns-clause-crew
 returns-clause-crew c = (invariant_of-self c).crew

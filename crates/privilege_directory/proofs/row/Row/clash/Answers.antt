@@ -8,7 +8,7 @@ returns-then-conflict c =
     let inside : c.loop-other.other < length c.args.self.now = search rules in
     let passes : (not (c.loop-other.other == c.args.hart) && conflict (Some c.args.mode) (unwrap_or (slice_get c.args.self.now c.loop-other.other) None)) ≡ true = search rules in
     sym (first_from (λ g. not (g == c.args.hart) && conflict (Some c.args.mode) (unwrap_or (slice_get c.args.self.now g) None)) 0 (length c.args.self.now) c.loop-other.other (omega arith) (omega (arith, inside))
-        (λ g a b. c.loop-other.invariant g b) passes)
+    (λ g a b. c.loop-other.invariant g b) passes)
 
 pub returns : goal.returns
 returns c =
