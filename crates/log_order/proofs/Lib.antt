@@ -14,3 +14,4 @@ pub mod Seen
 pub mod Everywhere
 pub mod Timed
 pub mod Taken
+pub mod Going

@@ -7,6 +7,7 @@ mod holding;
 mod least;
 mod order_error;
 mod orderly;
+mod orders;
 mod pages;
 mod row;
 mod rows;
