@@ -15,3 +15,4 @@ pub mod Everywhere
 pub mod Timed
 pub mod Taken
 pub mod Going
+pub mod Judged

@@ -4,6 +4,7 @@
 mod counts;
 mod cursor;
 mod holding;
+mod judging;
 mod least;
 mod order_error;
 mod orderly;

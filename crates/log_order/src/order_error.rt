@@ -1,4 +1,8 @@
 //! Why a log is not taken.
+ghost use Rattle.std.specs.Prelude.{◌≡◌};
+ghost use Rattle.log_order.specs.declared.order_error.OrderError.TheVariants.{NoMemory};
+
+use std::alloc::AllocError;
 use thiserror::Error;
 
 /// Why a log was given up.
@@ -9,4 +13,12 @@ pub enum OrderError {
     Disorderly { rule: u8, hart: u8, entry: u32 },
     #[error("memory ran out")]
     NoMemory,
+}
+
+impl From<AllocError> for OrderError {
+    ghost from_gives = { λ _ e. e ≡ NoMemory };
+
+    fn from(_error: AllocError) -> Self {
+        OrderError::NoMemory
+    }
 }
