@@ -1,13 +1,12 @@
 -- The least entry that breaks a rule, found in any order.
-use Rattle.std.proofs.Common.{◌≡◌, ℕ, zero, suc, ◌+◌, ◌<◌, ◌≤◌, Bool, true, false, cond, List, [], ◌∷◌, length, Option, Some, None, refl, sym, ap, ◌∙◌, subst, inl, inr, ◌⊎◌, arith, find}
-use Rattle.std.specs.Prelude.{◌==◌, ◌&&◌, ◌||◌, nat_lt, option_map, slice_get, unwrap_or, if◌then◌else◌}
-use Rattle.std.proofs.lemmas.Bool.{or_from, or_left, or_right, or_cases, and_from, and_parts, and_left, and_right, eqb-true, eq-eqb, ltb-true, lt-ltb, le-ltb, cases_Bool, cases_order, false_from_ne_true, true≢false}
+use Rattle.std.proofs.Common.{◌≡◌, Bool, true, false, cond, Option, Some, None, refl, sym, ap, ◌∙◌, subst, inl, inr, ◌⊎◌, arith, find}
+use Rattle.std.specs.Prelude.{◌==◌, ◌&&◌, nat_lt, option_map, if◌then◌else◌}
+use Rattle.std.proofs.lemmas.Bool.{or_left, or_right, or_cases, and_from, and_parts, eqb-true, eq-eqb, ltb-true, lt-ltb, false_from_ne_true, true≢false}
 use Rattle.std.proofs.lemmas.Option.{none-some, same_Some}
 use Rattle.log_entry.specs.declared.log.Entry.{Entry}
 use Rattle.log_entry.specs.declared.log.Log.{Log}
-use Rattle.log_entry.specs.Parts.{is_some_and}
-use Rattle.order_rules.specs.Places.{Placed, entry_at, stream}
-use Rattle.order_rules.specs.Orderly.{Spot, spots, at_entry}
+use Rattle.order_rules.specs.Places.{entry_at, stream}
+use Rattle.order_rules.specs.Orderly.{Spot, spots}
 use Rattle.order_rules.specs.Laws.{IsSpot, IsBefore}
 use Rattle.order_rules.proofs.Least.{first_is_least}
 use Rattle.order_rules.proofs.Numbers.{in_stream, below_length}

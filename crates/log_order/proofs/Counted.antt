@@ -1,10 +1,9 @@
 -- Counts of entries, one more at a time.
-use Rattle.std.proofs.Common.{◌≡◌, ℕ, zero, suc, ◌+◌, ◌<◌, ◌≤◌, Bool, true, false, cond, List, [], ◌∷◌, ◌++◌, flat_map, take, length, Option, Some, None, refl, sym, ap, ◌∙◌, inl, inr, arith, add-zero, zero-add, add_assoc}
+use Rattle.std.proofs.Common.{◌≡◌, ℕ, zero, suc, ◌+◌, Bool, cond, List, [], ◌∷◌, flat_map, take, Some, sym, ap, ◌∙◌, inl, inr, arith, add-zero, zero-add, add_assoc}
 use Rattle.std.specs.Prelude.{slice_get, count_by}
 use Rattle.std.proofs.lemmas.Bool.{cases_Bool}
 use Rattle.std.proofs.lemmas.Option.{none-some, same_Some, slice_get_within, get_or_from_slice_get}
 use Rattle.std.proofs.lemmas.List.Sums.{count_by_more_yes, count_by_more_no, sum_by-append}
-use Rattle.log_entry.specs.declared.log.Entry.{Entry}
 
 pub one_counted : {X : Type 0} (f : X → Bool) (s : List X) (i : ℕ) (e : X) → slice_get s i ≡ Some e → count_by f (take (i + 1) s) ≡ count_by f (take i s) + cond (f e) 1 0
 one_counted f s i e at =

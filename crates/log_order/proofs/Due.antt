@@ -1,17 +1,16 @@
 -- Along a stream whose counts don't fall, the least multiple of 4,096 without a Poll so far tells where O3 is first broken.
-use Rattle.std.proofs.Common.{◌≡◌, ℕ, zero, suc, ◌+◌, ◌-◌, ◌*◌, ◌/◌, ◌<◌, ◌≤◌, Bool, true, false, cond, eqb, ltb, List, [], ◌∷◌, length, get_or, take, Option, Some, None, refl, sym, ap, ◌∙◌, subst, inl, inr, ◌⊎◌, arith, eq-or-lt_of_le, le_of_suc-le-suc}
-use Rattle.std.specs.Prelude.{◌&&◌, ◌||◌, not, nat_le, nat_lt, slice_get, ◌==◌, ◌%◌}
+use Rattle.std.proofs.Common.{◌≡◌, ℕ, suc, ◌+◌, ◌-◌, ◌*◌, ◌/◌, ◌<◌, ◌≤◌, Bool, true, false, cond, List, [], ◌∷◌, length, take, Option, Some, refl, sym, ap, ◌∙◌, subst, inl, inr, ◌⊎◌, arith, eq-or-lt_of_le, le_of_suc-le-suc}
+use Rattle.std.specs.Prelude.{◌&&◌, ◌||◌, not, nat_le, nat_lt, slice_get, ◌==◌}
 use Rattle.std.specs.List.{list_any, list_all}
 use Rattle.std.specs.Option.{option_map_or}
-use Rattle.std.proofs.lemmas.Bool.{cases_lt, and_from, and_parts, and_left, and_right, or_from, or_parts, or_left, or_right, eqb-true, eqb-false, eq-eqb, ne_eqb, leb-true, le-leb, ltb-true, ltb-false, lt-ltb, le-ltb, true≢false}
-use Rattle.std.proofs.lemmas.Option.{slice_get_cases, slice_get_within, same_Some}
-use Rattle.orders_law.specs.Orders.{below}
+use Rattle.std.proofs.lemmas.Bool.{cases_lt, and_from, and_parts, and_left, and_right, or_parts, or_left, or_right, eqb-true, ne_eqb, leb-true, le-leb, ltb-false, lt-ltb, le-ltb}
+use Rattle.std.proofs.lemmas.Option.{slice_get_within, same_Some}
 use Rattle.log_entry.specs.declared.log.Entry.{Entry}
 use Rattle.log_entry.specs.Parts.{count_of, is_poll, is_some_and}
-use Rattle.order_rules.specs.Rules.{end_count, has_poll, polls_due, last_of}
+use Rattle.order_rules.specs.Rules.{end_count, has_poll, polls_due}
 use Rattle.log_order.specs.InStream.{NoFall, o3_in, may_poll_in, polls_wrongly, due_after}
-use Rattle.log_order.proofs.Lists.{any_there, none_there, all_at, all_in_take, any_below, none_below, get_take, in_take}
-use Rattle.log_order.proofs.Steps.{At, at_place, lower}
+use Rattle.log_order.proofs.Lists.{any_there, none_there, all_at, all_in_take, any_below, none_below, get_take}
+use Rattle.log_order.proofs.Steps.{at_place, lower}
 
 -- counts don't fall from one place to a later one
 pub rises_to : (s : List Entry) → NoFall s → (i j : ℕ) (x y : Entry) → i < j → slice_get s i ≡ Some x → slice_get s j ≡ Some y → count_of x ≤ count_of y
@@ -83,7 +82,7 @@ not_missed s i due x d le k =
     elim (cases_lt k d.number) [
       | inl less ↦ and_left (not (has_poll s (k * 4096))) (nat_lt (k * 4096) (count_of x) && list_all (λ e. nat_le (count_of e) (k * 4096)) (take i s)) (ap not (d.had k less))
       | inr more ↦ and_right (not (has_poll s (k * 4096))) (nat_lt (k * 4096) (count_of x) && list_all (λ e. nat_le (count_of e) (k * 4096)) (take i s))
-      (and_left (nat_lt (k * 4096) (count_of x)) (list_all (λ e. nat_le (count_of e) (k * 4096)) (take i s)) (le-ltb (k * 4096) (count_of x) (omega (arith, whole, more, le))))
+          (and_left (nat_lt (k * 4096) (count_of x)) (list_all (λ e. nat_le (count_of e) (k * 4096)) (take i s)) (le-ltb (k * 4096) (count_of x) (omega (arith, whole, more, le))))
     ]
 
 ends_true : (a b : Bool) → b ≡ true → (a || b) ≡ true

@@ -1,6 +1,6 @@
 -- Tests over all entries with their places.
-use Rattle.std.proofs.Common.{◌≡◌, ℕ, zero, suc, ◌+◌, Bool, true, List, [], ◌∷◌, map, flat_map, Option, Some, refl, sym, ap, ◌∙◌, subst, arith, add-zero, zero-add}
-use Rattle.std.specs.Prelude.{◌&&◌, slice_get, unwrap_or}
+use Rattle.std.proofs.Common.{◌≡◌, ℕ, zero, suc, ◌+◌, Bool, true, List, [], ◌∷◌, map, flat_map, Some, refl, sym, ap, ◌∙◌, subst, arith, add-zero, zero-add}
+use Rattle.std.specs.Prelude.{slice_get, unwrap_or}
 use Rattle.std.specs.List.{list_all, enumerate_from}
 use Rattle.std.proofs.lemmas.Bool.{and_from, and_parts}
 use Rattle.std.proofs.lemmas.List.Folds.{list_all-append}
@@ -28,11 +28,11 @@ module _ (f : Placed → Bool) where
       ∙ and_from (list_all f (map (λ (e : ℕ × Entry). record { hart = n; place = e.0; entry = e.1 }) (enumerate_from 0 s)))
       (list_all f (flat_map (λ (s : ℕ × List Entry). map (λ (e : ℕ × Entry). record { hart = s.0; place = e.0; entry = e.1 }) (enumerate_from 0 s.1)) (enumerate_from (n + 1) streams)))
       (all_in_row n 0 s (λ i e at.
-          let here = each 0 i s e refl at in
-          let one = subst (λ (k : ℕ). f (record { hart = k; place = i; entry = e }) ≡ true) (add-zero n) here in
-          subst (λ (k : ℕ). f (record { hart = n; place = k; entry = e }) ≡ true) (sym (zero-add i)) one))
+      let here = each 0 i s e refl at in
+      let one = subst (λ (k : ℕ). f (record { hart = k; place = i; entry = e }) ≡ true) (add-zero n) here in
+      subst (λ (k : ℕ). f (record { hart = n; place = k; entry = e }) ≡ true) (sym (zero-add i)) one))
       (all_in_rows (n + 1) streams (λ h i t e there at.
-          let k : n + suc h ≡ n + 1 + h = omega arith in subst (λ (k : ℕ). f (record { hart = k; place = i; entry = e }) ≡ true) k (each (suc h) i t e there at)))
+      let k : n + suc h ≡ n + 1 + h = omega arith in subst (λ (k : ℕ). f (record { hart = k; place = i; entry = e }) ≡ true) k (each (suc h) i t e there at)))
 
   at_in_row : (h n : ℕ) (s : List Entry) (i : ℕ) (e : Entry) → slice_get s i ≡ Some e → list_all f (map (λ (e : ℕ × Entry). record { hart = h; place = e.0; entry = e.1 }) (enumerate_from n s)) ≡ true
       → f (record { hart = h; place = n + i; entry = e }) ≡ true

@@ -1,22 +1,22 @@
 -- Filling rows entry by entry.
-use Rattle.std.proofs.Common.{◌≡◌, ◌≢◌, ℕ, zero, suc, ◌+◌, ◌<◌, ◌≤◌, Bool, true, false, cond, List, [], ◌∷◌, map, take, length, get_or, Option, Some, None, refl, sym, ap, ◌∙◌, subst, inl, inr, ◌⊎◌, arith, eq-or-lt_of_le, le_of_suc-le-suc}
+use Rattle.std.proofs.Common.{◌≡◌, ℕ, zero, suc, ◌+◌, ◌<◌, Bool, true, false, List, [], ◌∷◌, map, length, Option, Some, None, refl, sym, ap, ◌∙◌, subst, inl, inr, ◌⊎◌, arith, eq-or-lt_of_le, le_of_suc-le-suc}
 use Rattle.std.specs.Prelude.{◌&&◌, ◌||◌, not, nat_le, nat_lt, slice_get, slice_set, unwrap_or, is_some, option_map, option_and_then, ◌==◌, replicate, slice_index}
 use Rattle.std.specs.List.{list_any}
 use Rattle.std.proofs.Math.ListN.{length-set, length-map, length-replicate}
-use Rattle.std.proofs.lemmas.Bool.{and_from, and_parts, and_left, and_right, eqb-true, eq-eqb, false_from_ne_true, cases_lt, cases_eq, ltb-true, ltb-false, lt-ltb, le-ltb, le-leb, lt-leb, not-true, true≢false}
+use Rattle.std.proofs.lemmas.Bool.{and_from, and_parts, eqb-true, eq-eqb, false_from_ne_true, cases_lt, cases_eq, ltb-true, lt-ltb, le-ltb, le-leb, lt-leb, not-true, true≢false}
 use Rattle.std.proofs.lemmas.List.{get_or-set_same, get_or-set_other}
 use Rattle.std.proofs.lemmas.Option.{none-some, same_Some, slice_get_within, slice_get_past}
 use Rattle.log_entry.specs.declared.log.Entry.{Entry}
 use Rattle.log_entry.specs.declared.log.Log.{Log}
 use Rattle.log_entry.specs.Parts.{is_some_and, ordinal_of}
-use Rattle.order_rules.specs.Places.{Placed, entry_at, stream, earlier}
+use Rattle.order_rules.specs.Places.{entry_at, stream, earlier}
 use Rattle.order_rules.specs.Orderly.{Spot}
 use Rattle.order_rules.specs.Laws.{IsBefore}
 use Rattle.log_order.specs.declared.orderly.Leg.{Leg}
 use Rattle.log_order.specs.declared.series.Series.{Series}
 use Rattle.log_order.specs.declared.series.Series.TheVariants.{Pages, Ordinals}
 use Rattle.log_order.specs.Bounds.{IsSmall}
-use Rattle.log_order.specs.Rows.{key_of, has_key, width_of, size_of_row, misplaced, is_misplaced, slot_in, row_of, slot, is_free_in, is_free, with_leg, spot_of, RowsBelow, AreFilled}
+use Rattle.log_order.specs.Rows.{key_of, has_key, width_of, size_of_row, misplaced, is_misplaced, slot_in, row_of, slot, is_free, with_leg, spot_of, RowsBelow, AreFilled}
 use Rattle.log_order.proofs.Earlier.{any_earlier, none_earlier}
 
 pub get_set_same : {X : Type 0} (xs : List X) (i : ℕ) (y : X) → i < length xs → slice_get (slice_set xs i y) i ≡ Some y
@@ -73,7 +73,7 @@ stands_earlier series log h i rows e n filled = by (slot rows n) refl
     by : (o : Option Leg) → slot rows n ≡ o → list_any (has_key series n) (earlier log (record { hart = h; place = i; entry = e })) ≡ is_some (slot rows n)
     by None is =
         none_earlier (has_key series n) log (record { hart = h; place = i; entry = e }) (λ q x before at. false_from_ne_true (has_key series n x) (λ t.
-            none-some _ (sym is ∙ filled.stands (record { hart = q.0; entry = q.1 }) x n before at (has_it series n x t))))
+        none-some _ (sym is ∙ filled.stands (record { hart = q.0; entry = q.1 }) x n before at (has_it series n x t))))
         ∙ ap is_some (sym is)
     by (Some p) is =
         let o = filled.only p n is in
@@ -147,9 +147,9 @@ rows_below Ordinals log h i rows small filled = λ g j e n at is. (let z = first
 row_size : (rows : List (List (Option Leg))) (n : ℕ × ℕ) (leg : Leg) (g : ℕ) → n.0 < length rows → length (row_of (with_one rows n leg) g) ≡ length (row_of rows g)
 row_size rows n leg g l = elim (cases_eq g n.0) [
   | inl same ↦ ap (λ (k : ℕ). length (row_of (with_one rows n leg) k)) same
-  ∙ ap length (get_or-set_same rows n.0 (slice_set (row_of rows n.0) n.1 (Some leg)) [] l)
-  ∙ length-set (row_of rows n.0) n.1 (Some leg)
-  ∙ ap (λ (k : ℕ). length (row_of rows k)) (sym same)
+      ∙ ap length (get_or-set_same rows n.0 (slice_set (row_of rows n.0) n.1 (Some leg)) [] l)
+      ∙ length-set (row_of rows n.0) n.1 (Some leg)
+      ∙ ap (λ (k : ℕ). length (row_of rows k)) (sym same)
   | inr other ↦ ap length (get_or-set_other rows n.0 g (slice_set (row_of rows n.0) n.1 (Some leg)) [] other)
 ]
 

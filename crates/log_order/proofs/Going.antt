@@ -1,5 +1,5 @@
 -- The least order so far, which goes on from a cursor.
-use Rattle.std.proofs.Common.{◌≡◌, ℕ, zero, suc, ◌+◌, Bool, true, false, cond, not, List, [], ◌∷◌, ◌++◌, map, length, Option, Some, None, refl, sym, ap, ◌∙◌, subst, append_assoc, append-nil, replicate}
+use Rattle.std.proofs.Common.{◌≡◌, Bool, true, false, cond, not, List, [], ◌∷◌, ◌++◌, map, length, Option, Some, None, refl, sym, ap, ◌∙◌, subst, append_assoc, append-nil}
 use Rattle.std.specs.Prelude.{filter, is_some}
 use Rattle.std.proofs.lemmas.Bool.{true≢false}
 use Rattle.std.proofs.lemmas.List.Elements.{filter-append}
@@ -13,7 +13,6 @@ use Rattle.order_rules.specs.Cursor.{Cursor, start, take_one, least_left, IsLeas
 use Rattle.order_rules.specs.Orderly.{Spot, LeastOrderLeaves}
 use Rattle.log_order.specs.declared.orderly.Leg.{Leg}
 use Rattle.log_order.specs.Rows.{spot_of}
-use Rattle.log_order.specs.Legs.{AreLeastLegs}
 use Rattle.log_order.specs.Steps.{Goes}
 use Rattle.log_order.proofs.Taken.{places_stay, taking}
 
@@ -29,7 +28,7 @@ pub goes : (log : Log) (done : List Spot) (c m : Cursor) (leg : Leg) → IsTaken
 goes log done c m leg taken step = record {
   places = places_stay log leg.hart c m leg.entry step.1 ∙ taken.places;
   goes_on = λ rest t l. subst (λ (xs : List Spot). IsLeast (take_one log) (length log.streams) (start log) xs t) (sym (append_assoc done (spot_of leg ∷ []) rest))
-  (taken.goes_on (spot_of leg ∷ rest) t (step.0, (m, step.1, l)));
+      (taken.goes_on (spot_of leg ∷ rest) t (step.0, (m, step.1, l)));
 }
 
 pub over : (log : Log) (done : List Spot) (c : Cursor) → IsTaken log done c → least (take_one log) (length log.streams) c ≡ None → IsLeastOrder log done c

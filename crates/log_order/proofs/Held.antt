@@ -1,11 +1,11 @@
 -- A page's entries taken one by one, by their slots.
-use Rattle.std.proofs.Common.{◌≡◌, ℕ, zero, suc, ◌+◌, ◌<◌, ◌≤◌, Bool, true, false, cond, not, List, [], ◌∷◌, ◌++◌, map, flat_map, length, get_or, Option, Some, None, refl, sym, ap, ◌∙◌, subst, inl, inr, ◌⊎◌, arith, find, add-one, append-nil}
-use Rattle.std.specs.Prelude.{◌==◌, ◌&&◌, ◌||◌, nat_le, option_map, option_and_then, slice_get, slice_set, unwrap_or, filter, replicate, if◌then◌else◌}
+use Rattle.std.proofs.Common.{◌≡◌, ℕ, zero, suc, ◌+◌, ◌<◌, Bool, true, false, cond, not, List, [], ◌∷◌, ◌++◌, map, flat_map, length, Option, Some, None, refl, sym, ap, ◌∙◌, inl, inr, ◌⊎◌, arith, find, append-nil}
+use Rattle.std.specs.Prelude.{◌==◌, ◌&&◌, ◌||◌, nat_le, option_and_then, slice_get, slice_set, unwrap_or, replicate, if◌then◌else◌}
 use Rattle.std.specs.List.{list_any, enumerate_from}
 use Rattle.std.specs.Option.{option_or}
 use lib.Pointwise.{pointwise}
 use Rattle.std.proofs.Math.ListN.{length-set, length-replicate}
-use Rattle.std.proofs.lemmas.Bool.{cases_eq, eqb-true, eq-eqb, ne_eqb, cases_Bool, true≢false}
+use Rattle.std.proofs.lemmas.Bool.{cases_eq, eqb-true, eq-eqb, ne_eqb, true≢false}
 use Rattle.std.proofs.lemmas.List.{get_or-set_same, get_or-set_other}
 use Rattle.std.proofs.lemmas.List.Elements.{filter-append}
 use Rattle.std.proofs.lemmas.List.Folds.{find-append, list_any-append}
@@ -17,15 +17,14 @@ use Rattle.log_entry.specs.declared.log.Entry.{Entry}
 use Rattle.log_entry.specs.declared.log.Entry.TheVariants.{Gain, Yield, Poll, Touch, End}
 use Rattle.log_entry.specs.declared.log.Log.{Log}
 use Rattle.log_entry.specs.Parts.{is_some_and, page_number, holds_then, strength, conflict}
-use Rattle.order_rules.specs.Places.{Placed, entry_at, stream, by_hart, is_number, number_on, numbered}
+use Rattle.order_rules.specs.Places.{entry_at, stream, is_number, number_on, numbered}
 use Rattle.order_rules.specs.Rules.{held, held_after, waits_due, waits_after, same_wait, breaks_o6, breaks_o7}
 use Rattle.order_rules.specs.Orderly.{Spot, Keeps, o5, o6, o7}
-use Rattle.order_rules.specs.Laws.{IsBefore}
 use Rattle.order_rules.proofs.Numbers.{numbers_name, in_stream}
 use Rattle.log_order.specs.declared.orderly.Leg.{Leg}
-use Rattle.log_order.specs.declared.series.Series.TheVariants.{Pages, Ordinals}
-use Rattle.log_order.specs.Rows.{key_of, slot, spot_of, AreFilled}
-use Rattle.log_order.specs.Holding.{Holding, hold_of, conflicts_with_another, holds_wrongly, waits_of, waits_wrongly, yields_after, held_then, IsHeld}
+use Rattle.log_order.specs.declared.series.Series.TheVariants.{Pages}
+use Rattle.log_order.specs.Rows.{slot, AreFilled}
+use Rattle.log_order.specs.Holding.{Holding, hold_of, holds_wrongly, waits_of, waits_wrongly, yields_after, held_then, IsHeld}
 
 -- where no entry passes, none is found
 module _ (f : Entry → Bool) where
@@ -145,9 +144,9 @@ o6_where log h i page k e s at key there now =
         ∙ ap (λ (seq : ℕ). breaks_o6 log (record { hart = h; place = i; entry = Gain count page seq mode waits })) q
         ∙ ap (λ z. nat_le (strength (Some mode)) (strength z) || list_any (λ g. not (g == h) && conflict (Some mode) (held log page g k)) (below (length log.streams))) (sym (now.holds h there))
         ∙ ap (λ b. nat_le (strength (Some mode)) (strength (hold_of s.holds h)) || b) (
-            same_below (λ g. not (g == h) && conflict (Some mode) (held log page g k)) (λ g. not (g == h) && conflict (Some mode) (hold_of s.holds g)) (length log.streams)
-            (λ g l. ap (λ z. not (g == h) && conflict (Some mode) z) (sym (now.holds g l)))
-            ∙ ap (λ (n : ℕ). list_any (λ g. not (g == h) && conflict (Some mode) (hold_of s.holds g)) (below n)) (sym now.size))
+        same_below (λ g. not (g == h) && conflict (Some mode) (held log page g k)) (λ g. not (g == h) && conflict (Some mode) (hold_of s.holds g)) (length log.streams)
+        (λ g l. ap (λ z. not (g == h) && conflict (Some mode) z) (sym (now.holds g l)))
+        ∙ ap (λ (n : ℕ). list_any (λ g. not (g == h) && conflict (Some mode) (hold_of s.holds g)) (below n)) (sym now.size))
     by (Yield count page' seq left) key =
         let same : (page', seq) ≡ (page, k) = same_Some _ _ key in
         let p : page' ≡ page = ap (λ (z : ℕ × ℕ). z.0) same in
@@ -182,9 +181,9 @@ of_a_page log q breaks = by (entry_at log q.0 q.1) refl
     numbered : (e : Entry) → (breaks_o6 log (record { hart = q.0; place = q.1; entry = e }) ≡ true) ⊎ (breaks_o7 log (record { hart = q.0; place = q.1; entry = e }) ≡ true) → (n : ℕ × ℕ) × (page_number e ≡ Some n)
     numbered (Gain count page seq mode waits) t = ((page, seq), refl)
     numbered (Yield count page seq left) t = ((page, seq), refl)
-    numbered (Poll count ord time bits) t = absurd (elim t [ | inl a ↦ true≢false (sym a) | inr a ↦ true≢false (sym a) ])
-    numbered (Touch count ord input) t = absurd (elim t [ | inl a ↦ true≢false (sym a) | inr a ↦ true≢false (sym a) ])
-    numbered (End count) t = absurd (elim t [ | inl a ↦ true≢false (sym a) | inr a ↦ true≢false (sym a) ])
+    numbered (Poll count ord time bits) t = absurd (elim t [ inl a ↦ true≢false (sym a) | inr a ↦ true≢false (sym a) ])
+    numbered (Touch count ord input) t = absurd (elim t [ inl a ↦ true≢false (sym a) | inr a ↦ true≢false (sym a) ])
+    numbered (End count) t = absurd (elim t [ inl a ↦ true≢false (sym a) | inr a ↦ true≢false (sym a) ])
 
     by : (o : Option Entry) → entry_at log q.0 q.1 ≡ o → (e : Entry) × ((n : ℕ × ℕ) × (entry_at log q.0 q.1 ≡ Some e) × (page_number e ≡ Some n))
     by None is = absurd (elim breaks [

@@ -1,19 +1,22 @@
 -- From what each rule's search found to what is told of the log.
-use Rattle.std.proofs.Common.{◌≡◌, ℕ, zero, suc, ◌+◌, ◌-◌, ◌<◌, ◌≤◌, ◌^◌, Bool, true, false, cond, eqb, List, [], ◌∷◌, take, length, Option, Some, None, refl, sym, ap, ◌∙◌, subst, inl, inr, ◌⊎◌, arith, find}
-use Rattle.std.specs.Prelude.{◌==◌, ◌&&◌, ◌||◌, nat_le, nat_lt, slice_get, unwrap_or, is_some, Result, Ok, Err, IfOk, IfErr}
+use Rattle.std.proofs.Common.{◌≡◌, ℕ, zero, suc, ◌+◌, ◌-◌, ◌<◌, ◌≤◌, ◌^◌, Bool, true, false, cond, List, [], ◌∷◌, take, length, Option, Some, None, refl, sym, ap, ◌∙◌, subst, inl, inr, arith, find}
+use Rattle.std.specs.Prelude.{◌==◌, ◌&&◌, ◌||◌, nat_le, nat_lt, slice_get, unwrap_or, is_some, slice_index, option_map, Result, Ok, Err, IfOk, IfErr}
 use Rattle.std.specs.List.{list_any, list_all}
 use Rattle.std.specs.Bool.{IsTrue}
+use Rattle.std.specs.Result.{IsErrAnd}
 use Rattle.std.specs.Option.{option_map_or}
-use Rattle.std.proofs.lemmas.Bool.{and_parts, or_parts, or_left, eqb-true, eqb-false, eq-eqb, ne_eqb, cases_Bool, leb-true, ltb-true, ltb-false, lt-leb, cases_lt, true≢false}
+use Rattle.std.proofs.lemmas.Bool.{and_parts, eqb-false, eq-eqb, ne_eqb, leb-true, ltb-true, ltb-false, lt-leb, cases_lt, true≢false}
 use Rattle.std.proofs.lemmas.Option.{none-some, same_Some, slice_get_within}
 use Rattle.log_entry.specs.declared.log.Entry.{Entry}
 use Rattle.log_entry.specs.declared.log.Entry.TheVariants.{Gain, Yield, Poll, Touch, End}
 use Rattle.log_entry.specs.declared.log.Log.{Log}
 use Rattle.log_entry.specs.Parts.{count_of, is_end, is_poll, is_touch, is_some_and, page_number, units_of}
 use Rattle.log_entry.specs.Range.{in_range, is_stream, is_entry, is_wait, is_left}
-use Rattle.order_rules.specs.Places.{Placed, entry_at, stream, previous, before}
+use Rattle.order_rules.specs.Places.{entry_at, stream}
 use Rattle.order_rules.specs.Rules.{breaks_o4}
-use Rattle.order_rules.specs.Orderly.{Spot, spots, Keeps, o1, o2, o4, rules, first_broken}
+use Rattle.orders_law.specs.Orders.{below}
+use Rattle.order_rules.specs.Cursor.{Cursor, first_left}
+use Rattle.order_rules.specs.Orderly.{Spot, spots, Keeps, LeastOrderLeaves, o1, o2, o3, o4, o5, o6, o7, o8, rules, first_broken}
 use Rattle.order_rules.specs.Laws.{IsSpot}
 use Rattle.order_rules.proofs.Least.{first_is_least}
 use Rattle.order_rules.proofs.Numbers.{in_stream}
@@ -21,7 +24,7 @@ use Rattle.log_order.specs.declared.order_error.OrderError.{OrderError}
 use Rattle.log_order.specs.declared.order_error.OrderError.TheVariants as errors
 use Rattle.log_order.specs.Bounds.{IsSmall}
 use Rattle.log_order.specs.InStream.{falls, falls_at, o2_in}
-use Rattle.log_order.specs.Refusal.{Refuses, IsTold}
+use Rattle.log_order.specs.Refusal.{Refuses, IsTold, KeepsStreams, KeepsPages}
 use Rattle.log_order.proofs.Lists.{none_at, all_at, get_take}
 use Rattle.log_order.proofs.Kept.{no_fall}
 
@@ -153,3 +156,84 @@ small log range =
           let own = all_at (is_entry (length log.streams) (units_of log)) (stream log h) i x (and_parts (nat_lt (length (stream log h)) (2 ^ 32)) (list_all (is_entry (length log.streams) (units_of log)) (stream log h)) there).1 at in
           paged (length log.streams) (units_of log) x n own is;
     }
+
+-- where something was found, and no lesser rule is broken
+pub refused : (log : Log) (rule : ℕ) (found : Option Spot) (r : Result (Unit {0}) OrderError) → IsTold rule found r → ((p : Spot) → found ≡ Some p → first_broken log 1 rules ≡ Some (rule, p)) → IfErr r (Refuses log)
+refused log rule found (Ok u) told broken = tt
+refused log rule found (Err (errors.Disorderly r hart entry)) told broken = inl (broken (hart, entry) told.1 ∙ ap (λ (n : ℕ). Some (n, (hart, entry))) (sym told.0))
+refused log rule found (Err errors.NoMemory) told broken = tt
+
+passed : (log : Log) (n : ℕ) (rule : Log → Spot → Bool) (others : List (Log → Spot → Bool)) → Keeps log rule → first_broken log n (rule ∷ others) ≡ first_broken log (n + 1) others
+passed log n rule others kept = ap (λ o. option_map_or (λ p. Some (n, p)) o (first_broken log (n + 1) others)) kept
+
+broken : (log : Log) (n : ℕ) (rule : Log → Spot → Bool) (others : List (Log → Spot → Bool)) (p : Spot) → find (rule log) (spots log) ≡ Some p → first_broken log n (rule ∷ others) ≡ Some (n, p)
+broken log n rule others p found = ap (λ o. option_map_or (λ p. Some (n, p)) o (first_broken log (n + 1) others)) found
+
+after_streams : (log : Log) → KeepsStreams log → first_broken log 1 rules ≡ first_broken log 5 (o5 ∷ o6 ∷ o7 ∷ o8 ∷ [])
+after_streams log k =
+    passed log 1 o1 (o2 ∷ o3 ∷ o4 ∷ o5 ∷ o6 ∷ o7 ∷ o8 ∷ []) k.o1
+    ∙ passed log 2 o2 (o3 ∷ o4 ∷ o5 ∷ o6 ∷ o7 ∷ o8 ∷ []) k.o2
+    ∙ passed log 3 o3 (o4 ∷ o5 ∷ o6 ∷ o7 ∷ o8 ∷ []) k.o3
+    ∙ passed log 4 o4 (o5 ∷ o6 ∷ o7 ∷ o8 ∷ []) k.o4
+
+pub broken_o5 : (log : Log) → KeepsStreams log → (p : Spot) → find (o5 log) (spots log) ≡ Some p → first_broken log 1 rules ≡ Some (5, p)
+broken_o5 log k p found = after_streams log k ∙ broken log 5 o5 (o6 ∷ o7 ∷ o8 ∷ []) p found
+
+pub broken_o6 : (log : Log) → KeepsStreams log → Keeps log o5 → (p : Spot) → find (o6 log) (spots log) ≡ Some p → first_broken log 1 rules ≡ Some (6, p)
+broken_o6 log k five p found = after_streams log k ∙ passed log 5 o5 (o6 ∷ o7 ∷ o8 ∷ []) five ∙ broken log 6 o6 (o7 ∷ o8 ∷ []) p found
+
+pub broken_o7 : (log : Log) → KeepsStreams log → Keeps log o5 → Keeps log o6 → (p : Spot) → find (o7 log) (spots log) ≡ Some p → first_broken log 1 rules ≡ Some (7, p)
+broken_o7 log k five six p found = after_streams log k ∙ passed log 5 o5 (o6 ∷ o7 ∷ o8 ∷ []) five ∙ passed log 6 o6 (o7 ∷ o8 ∷ []) six ∙ broken log 7 o7 (o8 ∷ []) p found
+
+after_pages : (log : Log) → KeepsStreams log → KeepsPages log → first_broken log 1 rules ≡ first_broken log 8 (o8 ∷ [])
+after_pages log k pages = after_streams log k ∙ passed log 5 o5 (o6 ∷ o7 ∷ o8 ∷ []) pages.o5 ∙ passed log 6 o6 (o7 ∷ o8 ∷ []) pages.o6 ∙ passed log 7 o7 (o8 ∷ []) pages.o7
+
+pub broken_o8 : (log : Log) → KeepsStreams log → KeepsPages log → (p : Spot) → find (o8 log) (spots log) ≡ Some p → first_broken log 1 rules ≡ Some (8, p)
+broken_o8 log k pages p found = after_pages log k pages ∙ broken log 8 o8 [] p found
+
+pub none_broken : (log : Log) → KeepsStreams log → KeepsPages log → Keeps log o8 → first_broken log 1 rules ≡ None
+none_broken log k pages eight = after_pages log k pages ∙ passed log 8 o8 [] eight
+
+-- and O9
+pub refused_o9 : (log : Log) (found : Option Spot) (r : Result (Unit {0}) OrderError) → IsTold 9 found r → first_broken log 1 rules ≡ None → LeastOrderLeaves log found → IfErr r (Refuses log)
+refused_o9 log found (Ok u) told none leaves = tt
+refused_o9 log found (Err (errors.Disorderly r hart entry)) told none leaves = inr (told.0, none, subst (λ o. LeastOrderLeaves log o) told.1 leaves)
+refused_o9 log found (Err errors.NoMemory) told none leaves = tt
+
+passes : (test : ℕ → Bool) (xs : List ℕ) (x : ℕ) → find test xs ≡ Some x → test x ≡ true
+passes test [] x is = absurd (none-some x is)
+passes test (y ∷ xs) x is = by (test y) refl is (passes test xs x)
+  where
+    by : (b : Bool) → test y ≡ b → cond b (Some y) (find test xs) ≡ Some x → (find test xs ≡ Some x → test x ≡ true) → test x ≡ true
+    by true t is rest = ap test (sym (same_Some y x is)) ∙ t
+    by false t is rest = rest is
+
+-- what is left of a small log has numbers that fit
+pub left_fits : (log : Log) → IsSmall log → (found : Option Spot) (p : Spot) → LeastOrderLeaves log found → found ≡ Some p → (p.0 < 2 ^ 8) × (p.1 < 2 ^ 32)
+left_fits log small found p leaves is = by (find (λ h. is_some (first_left log leaves.1.0 h)) (below (length log.streams))) refl (leaves.1.2 ∙ is)
+  where
+    c : Cursor
+    c = leaves.1.0
+
+    fits : (h : ℕ) (o : Option Entry) → first_left log c h ≡ o → is_some o ≡ true → (h, slice_index c.places h) ≡ p → (p.0 < 2 ^ 8) × (p.1 < 2 ^ 32)
+    fits h None at some same = absurd (true≢false (sym some))
+    fits h (Some e) at some same =
+        let hart : h ≡ p.0 = ap (λ (z : Spot). z.0) same in
+        let place : slice_index c.places h ≡ p.1 = ap (λ (z : Spot). z.1) same in
+        let l = slice_get_within log.streams h (stream log h) (in_stream log h (slice_index c.places h) e at) in
+        let m = slice_get_within (stream log h) (slice_index c.places h) e at in
+        let few = small.harts in
+        let short = small.short h in
+        (omega (arith, hart, l, few), omega (arith, place, m, short))
+
+    by : (o : Option ℕ) → find (λ h. is_some (first_left log c h)) (below (length log.streams)) ≡ o → option_map (λ h. (h, slice_index c.places h)) o ≡ Some p → (p.0 < 2 ^ 8) × (p.1 < 2 ^ 32)
+    by None found is = absurd (none-some p is)
+    by (Some h) found is = fits h (first_left log c h) refl (passes (λ h. is_some (first_left log c h)) (below (length log.streams)) h found) (same_Some _ _ is)
+
+-- a `?` passes a refusal on
+pub carried : (log : Log) (r : Result (Unit {0}) OrderError) (e : OrderError) → IsErrAnd r (λ x. x ≡ e) → Refuses log e → IfErr r (Refuses log)
+carried log (Ok u) e same refuses = tt
+carried log (Err x) e same refuses = subst (Refuses log) (sym same) refuses
+
+pub refused_with : (log : Log) (rule : ℕ) (found : Option Spot) (e : OrderError) → IsTold rule found (Err e) → ((p : Spot) → found ≡ Some p → first_broken log 1 rules ≡ Some (rule, p)) → Refuses log e
+refused_with log rule found e told broken = refused log rule found (Err e) told broken

@@ -1,5 +1,5 @@
 -- What the rules of single streams say of each other.
-use Rattle.std.proofs.Common.{◌≡◌, ℕ, suc, ◌+◌, ◌-◌, ◌<◌, ◌≤◌, Bool, true, false, List, [], length, Some, None, refl, sym, ap, ◌∙◌, subst, inl, inr, arith, eq-or-lt_of_le, le_of_suc-le-suc}
+use Rattle.std.proofs.Common.{◌≡◌, ℕ, suc, ◌+◌, ◌-◌, ◌<◌, ◌≤◌, Bool, true, false, List, [], length, Some, None, refl, sym, ap, ◌∙◌, inl, inr, arith, eq-or-lt_of_le, le_of_suc-le-suc}
 use Rattle.std.specs.Prelude.{◌&&◌, ◌||◌, ◌==◌, not, nat_lt, slice_get, unwrap_or, Option}
 use Rattle.std.specs.Option.{option_map_or}
 use Rattle.std.proofs.lemmas.Bool.{or_parts, eq-eqb, not-false, ltb-false}
@@ -7,10 +7,10 @@ use Rattle.std.proofs.lemmas.Option.{slice_get_past, slice_get_within}
 use Rattle.log_entry.specs.declared.log.Entry.{Entry}
 use Rattle.log_entry.specs.declared.log.Log.{Log}
 use Rattle.log_entry.specs.Parts.{count_of, is_end, is_some_and}
-use Rattle.order_rules.specs.Orderly.{Spot, Keeps, o1}
+use Rattle.order_rules.specs.Orderly.{Keeps, o1}
 use Rattle.order_rules.proofs.Least.{first_is_least}
 use Rattle.order_rules.specs.Rules.{last_of, end_count}
-use Rattle.log_order.specs.InStream.{falls_at, falls, o1_in, o2_in, o3_in, NoFall, IsFirst}
+use Rattle.log_order.specs.InStream.{falls_at, o1_in, o2_in, o3_in, NoFall, IsFirst}
 
 first_part : (o : Option Entry) (f g : Entry → Bool) → is_some_and o (λ e. f e || g e) ≡ false → is_some_and o f ≡ false
 first_part None f g h = refl

@@ -1,8 +1,8 @@
 -- Tests over lists, place by place.
-use Rattle.std.proofs.Common.{◌≡◌, ℕ, zero, suc, ◌+◌, ◌<◌, ◌≤◌, Bool, true, false, List, [], ◌∷◌, ◌++◌, map, take, length, Option, Some, None, refl, sym, ap, ◌∙◌, subst, inl, inr, ◌⊎◌, arith, eq-or-lt_of_le, le_of_suc-le-suc, true≢false}
-use Rattle.std.specs.Prelude.{◌&&◌, ◌||◌, slice_get}
+use Rattle.std.proofs.Common.{◌≡◌, ℕ, zero, suc, ◌<◌, Bool, true, false, List, [], ◌∷◌, ◌++◌, map, take, Some, refl, sym, ap, ◌∙◌, inl, inr, arith, eq-or-lt_of_le, le_of_suc-le-suc}
+use Rattle.std.specs.Prelude.{◌||◌, slice_get}
 use Rattle.std.specs.List.{list_any, list_all}
-use Rattle.std.proofs.lemmas.Bool.{and_from, and_parts, or_from, or_parts, or_left, or_right, or_cases}
+use Rattle.std.proofs.lemmas.Bool.{and_from, and_parts, or_from, or_parts, or_left, or_right}
 use Rattle.std.proofs.lemmas.Option.{none-some, same_Some}
 use Rattle.std.proofs.lemmas.List.Folds.{list_any-append}
 use Rattle.orders_law.specs.Orders.{below}

@@ -1,17 +1,16 @@
 -- An entry is misplaced exactly where its number breaks O5, or the first part of O8.
-use Rattle.std.proofs.Common.{◌≡◌, ℕ, zero, suc, ◌+◌, ◌<◌, ◌≤◌, Bool, true, false, cond, List, [], ◌∷◌, Option, Some, None, refl, sym, ap, ◌∙◌, arith, find}
-use Rattle.std.specs.Prelude.{◌&&◌, ◌||◌, not, nat_le, count_by, is_some, option_map, option_and_then, ◌==◌, if◌then◌else◌}
+use Rattle.std.proofs.Common.{◌≡◌, ℕ, Bool, true, false, cond, Option, Some, None, refl, sym, ap, ◌∙◌}
+use Rattle.std.specs.Prelude.{◌&&◌, ◌||◌, nat_le, count_by, is_some, option_map, option_and_then, ◌==◌, if◌then◌else◌}
 use Rattle.std.specs.List.{list_any}
 use Rattle.std.proofs.Math.Path.{fun_ext}
 use Rattle.std.proofs.lemmas.Bool.{eq-eqb}
-use Rattle.log_entry.specs.declared.log.Entry.{Entry}
 use Rattle.log_entry.specs.declared.log.Log.{Log}
 use Rattle.log_entry.specs.Parts.{is_some_and, ordinal_of, page_number}
-use Rattle.order_rules.specs.Places.{Placed, entries, earlier, entry_at, is_number, number_on}
+use Rattle.order_rules.specs.Places.{Placed, entries, earlier, is_number, number_on}
 use Rattle.order_rules.specs.Rules.{is_misnumbered, breaks_o5}
-use Rattle.order_rules.specs.Orderly.{Spot, at_entry, spots, o5}
+use Rattle.order_rules.specs.Orderly.{at_entry, o5}
 use Rattle.log_order.specs.declared.series.Series.TheVariants.{Pages, Ordinals}
-use Rattle.log_order.specs.Rows.{key_of, has_key, is_in_row, is_misplaced, misplaced}
+use Rattle.log_order.specs.Rows.{has_key, is_in_row, is_misplaced, misplaced}
 
 same_size : (o : Option (ℕ × ℕ)) (g : ℕ) → is_some (option_and_then (λ (x : ℕ × ℕ). if x.0 == g then Some x.1 else None) o) ≡ is_some_and o (λ x. x.0 == g)
 same_size None g = refl

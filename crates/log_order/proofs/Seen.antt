@@ -1,6 +1,6 @@
 -- The entries of a row, seen one number after the other.
-use Rattle.std.proofs.Common.{◌≡◌, ℕ, zero, suc, ◌+◌, ◌<◌, ◌≤◌, Bool, true, false, List, [], ◌∷◌, length, get_or, Option, Some, None, refl, sym, ap, ◌∙◌, subst, inl, inr, ◌⊎◌, arith, eq-or-lt_of_le, le_of_suc-le-suc}
-use Rattle.std.specs.Prelude.{slice_get, option_and_then}
+use Rattle.std.proofs.Common.{◌≡◌, ℕ, zero, suc, ◌+◌, ◌<◌, ◌≤◌, List, [], ◌∷◌, length, get_or, Option, Some, None, refl, sym, ap, ◌∙◌, subst, inl, inr, ◌⊎◌, arith, eq-or-lt_of_le, le_of_suc-le-suc}
+use Rattle.std.specs.Prelude.{option_and_then}
 use Rattle.std.proofs.lemmas.Option.{none-some, same_Some, slice_get_within, slice_get_past, slice_get_read, get_or_from_slice_get}
 use Rattle.std.proofs.lemmas.Bool.{cases_lt}
 use Rattle.log_entry.specs.declared.log.Entry.{Entry}
@@ -79,10 +79,18 @@ module _ (series : Series) (log : Log) (rows : List (List (Option Leg))) (filled
 
   -- a row is over
   pub seen_row : (page : ℕ) (q : Spot) → IsNumberedBelow series log (page + 1) 0 q → IsNumberedBelow series log page (length (row_of rows page)) q
-  seen_row page q seen = (seen.0, (seen.1.0, seen.1.1, seen.1.2, elim seen.1.3 [
-    | inl l ↦ elim (eq-or-lt_of_le (le_of_suc-le-suc (let m : seen.1.0.0 < suc page = omega (arith, l) in m))) [
-      | inl same ↦ inr (same, subst (λ (g : ℕ). seen.1.0.1 < length (row_of rows g)) same (within_row q seen.0 seen.1.0 seen.1.1 seen.1.2))
-      | inr less ↦ inl less
-    ]
-    | inr b ↦ absurd (let l = b.1 in omega (arith, l))
-  ]))
+  seen_row page q seen = (
+    seen.0,
+    (
+      seen.1.0,
+      seen.1.1,
+      seen.1.2,
+      elim seen.1.3 [
+        | inl l ↦ elim (eq-or-lt_of_le (le_of_suc-le-suc (let m : seen.1.0.0 < suc page = omega (arith, l) in m))) [
+          | inl same ↦ inr (same, subst (λ (g : ℕ). seen.1.0.1 < length (row_of rows g)) same (within_row q seen.0 seen.1.0 seen.1.1 seen.1.2))
+          | inr less ↦ inl less
+        ]
+        | inr b ↦ absurd (let l = b.1 in omega (arith, l))
+      ],
+    ),
+  )

@@ -1,19 +1,16 @@
 -- One step of the least order.
-use Rattle.std.proofs.Common.{◌≡◌, ℕ, zero, suc, ◌+◌, ◌-◌, ◌<◌, ◌≤◌, Bool, true, false, cond, List, [], ◌∷◌, ◌++◌, length, Option, Some, None, refl, sym, ap, ◌∙◌, subst, inl, inr, ◌⊎◌, arith, find, eq-or-lt_of_le, le_of_suc-le-suc}
-use Rattle.std.specs.Prelude.{slice_get, slice_set, slice_index, is_some, option_and_then, unwrap_or, if◌then◌else◌}
+use Rattle.std.proofs.Common.{◌≡◌, ℕ, zero, suc, ◌+◌, ◌<◌, Bool, true, false, cond, List, [], ◌∷◌, length, Option, Some, None, refl, sym, ap, ◌∙◌, subst, inl, inr, arith, find, eq-or-lt_of_le, le_of_suc-le-suc}
+use Rattle.std.specs.Prelude.{slice_get, slice_set, slice_index, option_and_then, if◌then◌else◌}
 use Rattle.std.specs.Option.{option_or}
 use Rattle.std.proofs.Math.ListN.{length-set}
-use Rattle.std.proofs.lemmas.Bool.{true≢false}
 use Rattle.std.proofs.lemmas.List.Folds.{find-append}
 use Rattle.std.proofs.lemmas.Option.{none-some, same_Some, slice_get_within}
 use Rattle.orders_law.specs.Orders.{below}
 use Rattle.log_entry.specs.declared.log.Entry.{Entry}
-use Rattle.log_entry.specs.declared.log.Entry.TheVariants.{Gain, Yield, Poll, Touch, End}
 use Rattle.log_entry.specs.declared.log.Log.{Log}
 use Rattle.order_rules.specs.Places.{entry_at, stream}
-use Rattle.order_rules.specs.Cursor.{Cursor, first_left, guard_is_met, counted, taken, take_one}
+use Rattle.order_rules.specs.Cursor.{Cursor, first_left, guard_is_met, taken, take_one}
 use Rattle.order_rules.proofs.Numbers.{in_stream}
-use Rattle.log_order.specs.InStream.{IsFirst}
 use Rattle.log_order.specs.Steps.{left}
 
 module _ (test : ℕ → Bool) where

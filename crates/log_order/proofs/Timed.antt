@@ -1,15 +1,14 @@
 -- The times of entries along their ordinals.
-use Rattle.std.proofs.Common.{◌≡◌, ℕ, zero, suc, ◌+◌, ◌<◌, ◌≤◌, Bool, true, false, cond, not, List, [], ◌∷◌, ◌++◌, map, flat_map, take, length, Option, Some, None, refl, sym, ap, ◌∙◌, subst, inl, inr, ◌⊎◌, arith, find, add-zero, zero-add, append_assoc}
-use Rattle.std.specs.Prelude.{◌==◌, ◌&&◌, ◌||◌, nat_lt, option_map, option_and_then, slice_get, unwrap_or}
-use Rattle.std.specs.List.{list_any, list_all, enumerate_from}
-use Rattle.std.specs.Option.{option_or}
+use Rattle.std.proofs.Common.{◌≡◌, ℕ, zero, suc, Bool, true, false, cond, not, List, [], ◌∷◌, ◌++◌, flat_map, take, length, Option, Some, None, refl, sym, ap, ◌∙◌, subst, inl, inr, arith, find, append_assoc}
+use Rattle.std.specs.Prelude.{◌&&◌, ◌||◌, nat_lt, option_map, slice_get, unwrap_or}
+use Rattle.std.specs.List.{list_any, list_all}
 use Rattle.std.proofs.Math.Path.{fun_ext}
-use Rattle.std.proofs.lemmas.Bool.{and_from, and_parts, or_parts, or_from, eqb-true, eq-eqb, false_from_ne_true, true≢false}
+use Rattle.std.proofs.lemmas.Bool.{or_parts, eqb-true, eq-eqb, false_from_ne_true, true≢false}
 use Rattle.std.proofs.lemmas.Option.{none-some, same_Some, slice_get_within}
 use Rattle.log_entry.specs.declared.log.Entry.{Entry}
 use Rattle.log_entry.specs.declared.log.Log.{Log}
 use Rattle.log_entry.specs.Parts.{is_some_and, ordinal_of, time_of}
-use Rattle.order_rules.specs.Places.{Placed, entry_at, entries, earlier, placed, stream, is_number}
+use Rattle.order_rules.specs.Places.{Placed, entry_at, placed, stream, is_number}
 use Rattle.order_rules.specs.Rules.{is_misnumbered, with_ordinal, time_before, time_falls, ordinals_are_right, breaks_o8}
 use Rattle.order_rules.specs.Orderly.{Spot, spots, at_entry, o8}
 use Rattle.order_rules.specs.Laws.{IsBefore, IsSpot}
@@ -88,12 +87,14 @@ module _ (log : Log) (rows : List (List (Option Leg))) (filled : AreFilled Ordin
   ordinal_there k leg e is at =
       let o = filled.only leg (0, k) is in
       let key : key_of Ordinals e ≡ Some (0, k) = ap (key_of Ordinals) (same_Some e o.1.0 (sym at ∙ o.1.1)) ∙ o.1.2 in
-      let own = ordinal_from_key e k key in
-      (own, found_of_all (λ z. is_number k (ordinal_of z)) log.streams leg.hart leg.entry (stream log leg.hart) e (in_stream log leg.hart leg.entry e at) at
-        (none_earlier (λ z. is_number k (ordinal_of z)) log (record { hart = leg.hart; place = leg.entry; entry = e }) (λ q x before there. false_from_ne_true (is_number k (ordinal_of x)) (λ t.
+      let own = ordinal_from_key e k key in (
+        own,
+        found_of_all (λ z. is_number k (ordinal_of z)) log.streams leg.hart leg.entry (stream log leg.hart) e (in_stream log leg.hart leg.entry e at) at
+            (none_earlier (λ z. is_number k (ordinal_of z)) log (record { hart = leg.hart; place = leg.entry; entry = e }) (λ q x before there. false_from_ne_true (is_number k (ordinal_of x)) (λ t.
             let same : record { hart = q.0; entry = q.1 } ≡ leg = same_Some _ _ (sym (its_slot q.0 q.1 x k there (ordinal_from_test x k t)) ∙ is) in
             before_not_same (spot_of leg) (subst (λ (z : Leg). IsBefore (spot_of z) (spot_of leg)) same before))))
-        (is_that e k own))
+            (is_that e k own),
+      )
 
   pub no_ordinal : (k : ℕ) → slot rows (0, k) ≡ None → with_ordinal log k ≡ None
   no_ordinal k is = none_of_all (λ z. is_number k (ordinal_of z)) log.streams (λ h i s e there at. false_from_ne_true (is_number k (ordinal_of e)) (λ t.

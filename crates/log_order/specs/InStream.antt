@@ -1,5 +1,5 @@
 -- The rules that a stream keeps by itself, on the stream and a place of it.
-use Rattle.std.specs.Prelude.{ℕ, ◌≡◌, ◌<◌, ◌==◌, ◌-◌, ◌+◌, ◌*◌, ◌%◌, ◌&&◌, ◌||◌, not, nat_lt, nat_le, Bool, true, false, List, length, take, slice_get, Option, Some, None, if◌then◌else◌}
+use Rattle.std.specs.Prelude.{ℕ, ◌≡◌, ◌<◌, ◌==◌, ◌-◌, ◌+◌, ◌%◌, ◌&&◌, ◌||◌, not, nat_lt, nat_le, Bool, true, false, List, length, take, slice_get, Option, Some, None, if◌then◌else◌}
 use Rattle.log_entry.specs.declared.log.Entry.{Entry}
 use Rattle.std.specs.List.{list_any, list_all}
 use Rattle.log_entry.specs.Parts.{count_of, is_end, is_poll, is_touch, is_some_and}

@@ -1,7 +1,7 @@
 -- What a refusal of a log says.
 use Rattle.std.specs.Prelude.{ℕ, ◌≡◌, Option, Some, None, Result, Ok, Err}
 use Rattle.log_entry.specs.declared.log.Log.{Log}
-use Rattle.order_rules.specs.Orderly.{Spot, Keeps, IsLeastBreak, o1, o2, o3, o4, o5, o6, o7, o8}
+use Rattle.order_rules.specs.Orderly.{Spot, Keeps, IsLeastBreak, o1, o2, o3, o4, o5, o6, o7}
 use Rattle.log_order.specs.declared.order_error.OrderError.{OrderError}
 use Rattle.log_order.specs.declared.order_error.OrderError.TheVariants as errors
 

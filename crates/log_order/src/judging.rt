@@ -51,3 +51,54 @@ fn judge_streams(l: &Log) -> Result<(), OrderError>
     tell(2, least_o2(l))?;
     tell(3, least_o3(l))
 }
+
+/// The rules of pages.
+fn judge_rows(alloc: Global, l: &Log) -> Result<(), OrderError>
+    requires small { IsSmall l.now }
+    requires streams { KeepsStreams l.now }
+    ensures kept { IfOk result (λ _. KeepsPages l.now) }
+    ensures refused { IfErr result (Refuses l.now) }
+{
+    let (rows, misplaced) = rows_of(alloc, Series::Pages, l)?;
+    tell(5, misplaced)?;
+    let least = judge_pages(alloc, l, rows.as_slice())?;
+    tell_leg(6, least.holds)?;
+    tell_leg(7, least.waits)
+}
+
+/// The rule of ordinals.
+fn judge_ordinals(alloc: Global, l: &Log) -> Result<(), OrderError>
+    requires small { IsSmall l.now }
+    requires streams { KeepsStreams l.now }
+    requires pages { KeepsPages l.now }
+    ensures kept { IfOk result (λ _. Keeps l.now o8) }
+    ensures refused { IfErr result (Refuses l.now) }
+{
+    let (rows, misplaced) = rows_of(alloc, Series::Ordinals, l)?;
+    tell(8, misplaced)?;
+    tell_leg(8, judge_times(l, rows.as_slice()))
+}
+
+/// The rule of the least order.
+fn judge_least_order(alloc: Global, l: &Log) -> Result<(), OrderError>
+    requires small { IsSmall l.now }
+    requires streams { KeepsStreams l.now }
+    requires pages { KeepsPages l.now }
+    requires ordinals { Keeps l.now o8 }
+    ensures kept { IfOk result (λ _. LeastOrderLeaves l.now None) }
+    ensures refused { IfErr result (Refuses l.now) }
+{
+    tell(9, least_left(alloc, l)?)
+}
+
+/// Whether a log is orderly, or the least rule that it breaks.
+pub(crate) fn judge(alloc: Global, l: &Log) -> Result<(), OrderError>
+    requires { IsSmall l.now }
+    ensures kept { IfOk result (λ _. IsOrderly l.now) }
+    ensures refused { IfErr result (Refuses l.now) }
+{
+    judge_streams(l)?;
+    judge_rows(alloc, l)?;
+    judge_ordinals(alloc, l)?;
+    judge_least_order(alloc, l)
+}

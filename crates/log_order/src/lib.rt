@@ -18,4 +18,4 @@ mod streams;
 mod times;
 
 pub use order_error::OrderError;
-pub use orderly::{Leg, Orderly};
+pub use orderly::{Leg, Orderly, least_order, put_in_order};

@@ -31,7 +31,12 @@ pub(crate) fn entry_of(l: &Log, leg: Leg) -> &Entry
 }
 
 /// Judges an entry of a page by what is held before it, and takes it.
-fn judge_entry(e: &Entry, leg: Leg, holding: &mut Holding, least: Breaks) -> Result<Breaks, AllocError>
+fn judge_entry(
+    e: &Entry,
+    leg: Leg,
+    holding: &mut Holding,
+    least: Breaks,
+) -> Result<Breaks, AllocError>
     requires { leg.hart < length holding.old.holds }
     ensures holds { IfOk result (λ r. r.holds ≡ if holds_wrongly holding.old.holds leg.hart e.now then lesser_of least.holds leg else least.holds) }
     ensures waits { IfOk result (λ r. r.waits ≡ if waits_wrongly holding.old.yields leg.hart e.now then lesser_of least.waits leg else least.waits) }
@@ -44,7 +49,13 @@ fn judge_entry(e: &Entry, leg: Leg, holding: &mut Holding, least: Breaks) -> Res
 }
 
 /// Judges the entries of a page.
-fn judge_page(alloc: Global, l: &Log, rows: &[Row], page: usize, least: Breaks) -> Result<Breaks, AllocError>
+fn judge_page(
+    alloc: Global,
+    l: &Log,
+    rows: &[Row],
+    page: usize,
+    least: Breaks,
+) -> Result<Breaks, AllocError>
     requires page { page < length rows.now }
     requires filled { AreFilled Pages l.now (length l.now.streams) 0 rows.now }
     requires numbered { Keeps l.now o5 }

@@ -71,7 +71,11 @@ fn fill_log(series: Series, l: &Log, rows: &mut [Row]) -> Option<(usize, usize)>
 }
 
 /// Where each entry of the series stands, and the first that has no place.
-pub(crate) fn rows_of(alloc: Global, series: Series, l: &Log) -> Result<(Vec<Row>, Option<(usize, usize)>), AllocError>
+pub(crate) fn rows_of(
+    alloc: Global,
+    series: Series,
+    l: &Log,
+) -> Result<(Vec<Row>, Option<(usize, usize)>), AllocError>
     requires { IsSmall l.now }
     ensures found { IfOk result (λ r. r.1 ≡ find (misplaced series l.now) (spots l.now)) }
     ensures filled { IfOk result (λ r. r.1 ≡ None → AreFilled series l.now (length l.now.streams) 0 r.0.items) }

@@ -1,5 +1,5 @@
-use Rattle.std.proofs.Common.{◌≡◌, ℕ, ◌+◌, ◌*◌, ◌<◌, ◌≤◌, ◌^◌, List, [], Some, length, take, flat_map, sym, ap, ◌∙◌, arith}
-use Rattle.std.specs.Prelude.{count_by, slice_get, slice_index, unwrap_or}
+use Rattle.std.proofs.Common.{◌≡◌, ◌+◌, ◌<◌, ◌^◌, [], length, sym, ap, ◌∙◌, arith}
+use Rattle.std.specs.Prelude.{count_by, unwrap_or}
 use Rattle.std.proofs.lemmas.List.Sums.{count_by-le-length}
 use Rattle.order_rules.specs.Places.{stream}
 use Rattle.log_order.specs.Rows.{is_in_row}
@@ -18,8 +18,8 @@ loop-h-preserved c =
     record {
       length = c.count_stream.ensures.length ∙ c.loop-h.invariant.length;
       counted = λ g. c.count_stream.ensures.counts g
-      ∙ ap (λ n. n + count_by (is_in_row c.args.series g) t) (c.loop-h.invariant.counted g)
-      ∙ sym (stream_counted (is_in_row c.args.series g) log.streams h t got);
+          ∙ ap (λ n. n + count_by (is_in_row c.args.series g) t) (c.loop-h.invariant.counted g)
+          ∙ sym (stream_counted (is_in_row c.args.series g) log.streams h t got);
       few = λ g.
           let sum = c.count_stream.ensures.counts g in
           let before = c.loop-h.invariant.few g in

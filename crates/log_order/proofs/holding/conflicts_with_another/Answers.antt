@@ -1,4 +1,4 @@
-use Rattle.std.proofs.Common.{◌≡◌, ℕ, ◌<◌, Bool, Some, length, sym, ◌∙◌, arith}
+use Rattle.std.proofs.Common.{ℕ, Bool, Some, length, sym, ◌∙◌, arith}
 use Rattle.std.specs.Prelude.{◌==◌, ◌&&◌, not}
 use Rattle.log_entry.specs.Parts.{conflict}
 use Rattle.log_order.specs.Holding.{hold_of}

@@ -1,14 +1,11 @@
-use Rattle.std.proofs.Common.{◌≡◌, ℕ, suc, ◌+◌, ◌<◌, ◌≤◌, List, [], get_or, Some, None, length, refl, sym, ap, ◌∙◌, subst, arith, add-one, replicate}
-use Rattle.std.specs.Prelude.{slice_get, Option, if◌then◌else◌}
+use Rattle.std.proofs.Common.{◌≡◌, ℕ, ◌+◌, ◌<◌, Some, None, length, sym, ap, ◌∙◌, subst, arith, add-one}
 use Rattle.std.proofs.lemmas.Option.{none-some, same_Some}
-use Rattle.log_entry.specs.declared.log.Log.{Log}
 use Rattle.log_entry.specs.declared.log.Entry.{Entry}
 use Rattle.order_rules.specs.Orderly.{o6, o7}
 use Rattle.log_order.specs.declared.series.Series.TheVariants.{Pages}
-use Rattle.log_order.specs.Holding.{Holding, held_then, holds_wrongly, waits_wrongly, IsHeld}
-use Rattle.log_order.specs.declared.orderly.Leg.{Leg}
-use Rattle.log_order.specs.Least.{lesser, IsNumberedBelow, IsLeastSoFar}
-use Rattle.log_order.specs.Rows.{slot, slot_in, row_of, spot_of}
+use Rattle.log_order.specs.Holding.{held_then, holds_wrongly, waits_wrongly, IsHeld}
+use Rattle.log_order.specs.Least.{IsNumberedBelow, IsLeastSoFar}
+use Rattle.log_order.specs.Rows.{slot, slot_in}
 use Rattle.log_order.proofs.Best.{one_seen, same_seen}
 use Rattle.log_order.proofs.Held.{stands_there, nothing_there, held_next, o6_where, o7_where}
 use Rattle.log_order.proofs.Seen.{row_is, ended, seen_next, seen_nothing, seen_row}

@@ -1,7 +1,7 @@
-use Rattle.std.proofs.Common.{◌≡◌, ℕ, ◌<◌, length, None, inl, inr, arith}
-use Rattle.order_rules.specs.Orderly.{Spot, o6, o7}
+use Rattle.std.proofs.Common.{inl, inr, arith}
+use Rattle.order_rules.specs.Orderly.{o6, o7}
 use Rattle.log_order.specs.declared.series.Series.TheVariants.{Pages}
-use Rattle.log_order.specs.Least.{IsNumberedBelow, IsLeastSoFar}
+use Rattle.log_order.specs.Least.{IsNumberedBelow}
 use Rattle.log_order.proofs.Best.{nothing_seen, all_seen}
 use Rattle.log_order.proofs.Held.{of_a_page}
 use Rattle.log_order.proofs.Seen.{none_at_first, within_rows}
@@ -20,15 +20,15 @@ returns-clause-holds c =
     let log = c.args.l.now in
     let past = c.loop-page-test.false in
     all_seen log (o6 log) (IsNumberedBelow Pages log c.loop-page.page 0) c.loop-page.least.holds c.loop-page.invariant.holds (λ q spot t.
-        let e = of_a_page log q (inl t) in
-        let l = within_rows Pages log c.args.rows.now c.requires.filled q e.0 e.1.0 e.1.1 e.1.2 in
-        (e.0, (e.1.0, e.1.1, e.1.2, inl (omega (arith, l, past)))))
+    let e = of_a_page log q (inl t) in
+    let l = within_rows Pages log c.args.rows.now c.requires.filled q e.0 e.1.0 e.1.1 e.1.2 in
+    (e.0, (e.1.0, e.1.1, e.1.2, inl (omega (arith, l, past)))))
 
 pub returns-clause-waits : goal.returns-clause-waits
 returns-clause-waits c =
     let log = c.args.l.now in
     let past = c.loop-page-test.false in
     all_seen log (o7 log) (IsNumberedBelow Pages log c.loop-page.page 0) c.loop-page.least.waits c.loop-page.invariant.waits (λ q spot t.
-        let e = of_a_page log q (inr t) in
-        let l = within_rows Pages log c.args.rows.now c.requires.filled q e.0 e.1.0 e.1.1 e.1.2 in
-        (e.0, (e.1.0, e.1.1, e.1.2, inl (omega (arith, l, past)))))
+    let e = of_a_page log q (inr t) in
+    let l = within_rows Pages log c.args.rows.now c.requires.filled q e.0 e.1.0 e.1.1 e.1.2 in
+    (e.0, (e.1.0, e.1.1, e.1.2, inl (omega (arith, l, past)))))

@@ -1,9 +1,8 @@
-use Rattle.std.proofs.Common.{◌≡◌, ℕ, ◌+◌, ◌<◌, Bool, true, false, not, List, [], Some, None, length, refl, sym, ap, ◌∙◌, subst, arith}
-use Rattle.std.specs.Prelude.{slice_get, unwrap_or}
-use Rattle.std.proofs.lemmas.Option.{slice_get_read, slice_get_past}
-use Rattle.log_entry.specs.Parts.{is_some_and}
-use Rattle.order_rules.specs.Places.{stream, entry_at}
-use Rattle.log_order.specs.Rows.{key_of, misplaced, is_misplaced, with_leg, AreFilled}
+use Rattle.std.proofs.Common.{◌≡◌, ℕ, ◌+◌, ◌<◌, not, [], None, length, refl, sym, ap, ◌∙◌, subst, arith}
+use Rattle.std.specs.Prelude.{unwrap_or}
+use Rattle.std.proofs.lemmas.Option.{slice_get_read}
+use Rattle.order_rules.specs.Places.{stream}
+use Rattle.log_order.specs.Rows.{misplaced, AreFilled}
 use Rattle.log_order.proofs.Lift.{reading}
 use Rattle.log_order.proofs.Below.{one_more}
 use Rattle.log_order.proofs.Kept.{widen}
@@ -20,8 +19,7 @@ returns-then-not-put_entry-clause-first c =
     let at = at_spot log h i t c.index-s-i.result got (slice_get_read t (length t) i c.index-s-i.result refl c.loop-i-test.true c.index-s-i.is) in
     let below = rows_below c.args.series log h i c.loop-i.rows c.requires.small c.loop-i.invariant.filled in
     let l = c.loop-i-test.true in
-    let size : length (stream log h) ≡ length t = ap (λ o. length (unwrap_or o [])) got in
-    (
+    let size : length (stream log h) ≡ length t = ap (λ o. length (unwrap_or o [])) got in (
       omega (arith, l, size),
       misplaced_where c.args.series log h i c.loop-i.rows c.index-s-i.result c.loop-i.invariant.filled below at ∙ ap not (sym c.put_entry.ensures.answer ∙ c.if-not-put_entry.true),
       c.loop-i.invariant.right,
@@ -42,7 +40,7 @@ loop-i-preserved c =
     record {
       filled = subst (λ rows. AreFilled c.args.series log h (i + 1) rows) (sym (c.put_entry.ensures.rows put)) filled;
       right = one_more (λ j. misplaced c.args.series log (h, j)) i c.loop-i.invariant.right
-      (misplaced_where c.args.series log h i c.loop-i.rows e c.loop-i.invariant.filled below at ∙ ap not (sym c.put_entry.ensures.answer ∙ c.if-not-put_entry.false));
+          (misplaced_where c.args.series log h i c.loop-i.rows e c.loop-i.invariant.filled below at ∙ ap not (sym c.put_entry.ensures.answer ∙ c.if-not-put_entry.false));
     }
 
 pub returns-clause-first : goal.returns-clause-first

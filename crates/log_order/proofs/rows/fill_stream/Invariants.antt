@@ -1,5 +1,4 @@
 use Rattle.std.proofs.Common.{◌≡◌, ℕ, ◌<◌, false}
-use Rattle.order_rules.specs.Places.{stream}
 use Rattle.log_order.specs.Rows.{misplaced, AreFilled}
 use Rattle.log_order.proofs.rows.fill_stream.Given as goal
 

@@ -1,7 +1,6 @@
 use Rattle.std.proofs.Common.{◌≡◌, ℕ, ◌++◌, List, None, length, map, take, drop, replicate, sym, ap, ◌∙◌, subst, arith}
-use Rattle.std.specs.Prelude.{slice_index}
 use Rattle.std.proofs.lemmas.Grind.{common_steps}
-use Rattle.log_order.specs.Rows.{AreFilled, size_of_row}
+use Rattle.log_order.specs.Rows.{AreFilled}
 use Rattle.log_order.proofs.Filled.{none_filled}
 use Rattle.log_order.proofs.rows.rows_of.Goals as goal
 

@@ -1,4 +1,4 @@
-use Rattle.std.proofs.Common.{◌≡◌, sym, ◌∙◌, arith}
+use Rattle.std.proofs.Common.{sym, ◌∙◌, arith}
 use Rattle.log_order.specs.InStream.{o1_in}
 use Rattle.log_order.proofs.Below.{one_more}
 use Rattle.log_order.proofs.streams.first_o1.Goals as goal

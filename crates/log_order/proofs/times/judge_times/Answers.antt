@@ -1,4 +1,4 @@
-use Rattle.std.proofs.Common.{◌≡◌, ℕ, suc, ◌+◌, ◌<◌, ◌≤◌, cond, Some, None, length, refl, sym, ap, ◌∙◌, subst, inl, inr, arith, add-one}
+use Rattle.std.proofs.Common.{◌≡◌, ℕ, suc, ◌+◌, ◌<◌, cond, Some, None, length, refl, sym, ap, ◌∙◌, subst, inl, arith, add-one}
 use Rattle.std.specs.Prelude.{nat_lt, option_map, option_and_then, unwrap_or}
 use Rattle.log_entry.specs.Parts.{is_some_and, time_of}
 use Rattle.order_rules.specs.Rules.{time_before}
@@ -7,7 +7,7 @@ use Rattle.log_order.specs.declared.series.Series.TheVariants.{Ordinals}
 use Rattle.log_order.specs.Least.{lesser, IsNumberedBelow, IsLeastSoFar}
 use Rattle.log_order.specs.Rows.{slot, slot_in}
 use Rattle.log_order.proofs.Best.{nothing_seen, one_seen, same_seen, all_seen}
-use Rattle.log_order.proofs.Seen.{row_is, ended, none_at_first, seen_next, seen_nothing, seen_row, within_rows}
+use Rattle.log_order.proofs.Seen.{row_is, ended, none_at_first, seen_next, seen_nothing, seen_row}
 use Rattle.log_order.proofs.Timed.{ordinal_there, no_ordinal, o8_where_right, of_an_ordinal}
 use Rattle.log_order.proofs.times.judge_times.Goals as goal
 use Rattle.log_order.proofs.times.judge_times.Goals.{in-Some, in_default}
@@ -66,6 +66,6 @@ returns c =
     let row = row_is c.args.rows.now 0 c.index-rows-0.result wide c.index-rows-0.is in
     let end = ended c.args.rows.now 0 c.loop-number.number c.size-number-end.result c.index-rows-0.result row c.size-number-end.ensures c.loop-number.auto.number-end c.loop-number-test.false in
     all_seen log (o8 log) (IsNumberedBelow Ordinals log 0 c.loop-number.number) c.loop-number.least c.loop-number.invariant.least (λ q spot t.
-        let e = of_an_ordinal log q c.requires.numbered t in
-        subst (λ (k : ℕ). IsNumberedBelow Ordinals log 0 k q) end (seen_row Ordinals log c.args.rows.now c.requires.filled 0 q
-        (e.0, ((0, e.1.0), e.1.1, ap (option_map {U = ℕ × ℕ} (λ k. (0, k))) e.1.2, inl (omega arith)))))
+    let e = of_an_ordinal log q c.requires.numbered t in
+    subst (λ (k : ℕ). IsNumberedBelow Ordinals log 0 k q) end (seen_row Ordinals log c.args.rows.now c.requires.filled 0 q
+    (e.0, ((0, e.1.0), e.1.1, ap (option_map {U = ℕ × ℕ} (λ k. (0, k))) e.1.2, inl (omega arith)))))

@@ -1,7 +1,5 @@
-use Rattle.std.proofs.Common.{◌≡◌, ℕ, ◌<◌, true, Option, Some, None, length, sym, ap, ◌∙◌, subst, arith}
+use Rattle.std.proofs.Common.{◌≡◌, ℕ, ◌<◌, Some, length, sym, ap, ◌∙◌, subst, arith}
 use Rattle.std.specs.Prelude.{is_some, option_map, slice_index}
-use Rattle.std.proofs.lemmas.Option.{none-some}
-use Rattle.log_entry.specs.declared.log.Entry.{Entry}
 use Rattle.order_rules.specs.Cursor.{first_left}
 use Rattle.log_order.proofs.Taken.{none_below, first_below}
 use Rattle.log_order.proofs.cursor.Cursor.least_left.Goals as goal

@@ -1,7 +1,6 @@
-use Rattle.std.proofs.Common.{◌≡◌, ℕ, ◌<◌, true, false, Some, length, sym, ap, ◌∙◌, subst, arith}
+use Rattle.std.proofs.Common.{◌≡◌, ℕ, ◌<◌, false, Some, length, sym, ap, ◌∙◌, subst, arith}
 use Rattle.std.specs.Prelude.{is_some}
 use Rattle.order_rules.specs.Cursor.{take_one}
-use Rattle.log_order.specs.Steps.{left}
 use Rattle.log_order.proofs.Taken.{none_below, first_below, fewer_left}
 use Rattle.log_order.proofs.cursor.Cursor.step.Goals as goal
 
@@ -30,8 +29,7 @@ returns-clause-goes c =
     let log = c.args.l.now in
     let old = c.args.self.now in
     let past = c.loop-hart-test.false in
-    let size : length c.items-hart-end.result.now ≡ length log.streams = ap length c.items-hart-end.ensures in
-    (
+    let size : length c.items-hart-end.result.now ≡ length log.streams = ap length c.items-hart-end.ensures in (
       none_below (λ j. is_some (take_one log j old)) (length log.streams) (λ j m. ap (λ s. is_some (take_one log j s)) (sym c.loop-hart.invariant.same) ∙ c.loop-hart.invariant.none j (omega (arith, past, size, m))),
       c.loop-hart.invariant.same,
     )

@@ -1,0 +1,5 @@
+use Rattle.log_order.proofs.Judged.{small}
+use Rattle.log_order.proofs.orderly.put_in_order.Goals as goal
+
+pub judge-requires : goal.judge-requires
+judge-requires c = small c.args.l c.requires
