@@ -19,3 +19,6 @@ mod times;
 
 pub use order_error::OrderError;
 pub use orderly::{Leg, Orderly, least_order, put_in_order};
+
+#[cfg(test)]
+mod tests;
