@@ -1,6 +1,6 @@
 -- The least order so far, which goes on from a cursor.
 use Rattle.std.proofs.Common.{◌≡◌, Bool, true, false, cond, not, List, [], ◌∷◌, ◌++◌, map, length, Option, Some, None, refl, sym, ap, ◌∙◌, subst, append_assoc, append-nil}
-use Rattle.std.specs.Prelude.{filter, is_some}
+use Rattle.std.specs.Prelude.{filter, is_some, if◌then◌else◌}
 use Rattle.std.proofs.lemmas.Bool.{true≢false}
 use Rattle.std.proofs.lemmas.List.Elements.{filter-append}
 use Rattle.std.proofs.Math.ListN.{length-replicate}
@@ -56,16 +56,14 @@ map-append : (xs ys : List Leg) → map spot_of (xs ++ ys) ≡ map spot_of xs ++
 map-append [] ys = refl
 map-append (x ∷ xs) ys = ap (λ zs. spot_of x ∷ zs) (map-append xs ys)
 
-pub one_kept : (log : Log) (legs : List Leg) (done : List Spot) (leg : Leg) → is_some_and (entry_at log leg.hart leg.entry) is_end ≡ false → map spot_of legs ≡ filter (is_no_end log) done
-    → map spot_of (legs ++ leg ∷ []) ≡ filter (is_no_end log) (done ++ spot_of leg ∷ [])
-one_kept log legs done leg other same =
+-- the legs after one more step
+pub legs_then : (log : Log) (legs : List Leg) (done : List Spot) (leg : Leg) (b : Bool) → is_some_and (entry_at log leg.hart leg.entry) is_end ≡ b → map spot_of legs ≡ filter (is_no_end log) done
+    → map spot_of (if b then legs else legs ++ leg ∷ []) ≡ filter (is_no_end log) (done ++ spot_of leg ∷ [])
+legs_then log legs done leg false is same =
     map-append legs (leg ∷ []) ∙ ap (λ xs. xs ++ spot_of leg ∷ []) same
-    ∙ ap (λ b. filter (is_no_end log) done ++ cond (not b) (spot_of leg ∷ []) []) (sym other)
+    ∙ ap (λ b. filter (is_no_end log) done ++ cond (not b) (spot_of leg ∷ []) []) (sym is)
     ∙ sym (filter-append (is_no_end log) done (spot_of leg ∷ []))
-
-pub end_dropped : (log : Log) (legs : List Leg) (done : List Spot) (leg : Leg) → is_some_and (entry_at log leg.hart leg.entry) is_end ≡ true → map spot_of legs ≡ filter (is_no_end log) done
-    → map spot_of legs ≡ filter (is_no_end log) (done ++ spot_of leg ∷ [])
-end_dropped log legs done leg ends same =
+legs_then log legs done leg true is same =
     same ∙ sym (append-nil (filter (is_no_end log) done))
-    ∙ ap (λ b. filter (is_no_end log) done ++ cond (not b) (spot_of leg ∷ []) []) (sym ends)
+    ∙ ap (λ b. filter (is_no_end log) done ++ cond (not b) (spot_of leg ∷ []) []) (sym is)
     ∙ sym (filter-append (is_no_end log) done (spot_of leg ∷ []))

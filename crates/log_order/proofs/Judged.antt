@@ -200,7 +200,7 @@ refused_o9 log found (Ok u) told none leaves = tt
 refused_o9 log found (Err (errors.Disorderly r hart entry)) told none leaves = inr (told.0, none, subst (λ o. LeastOrderLeaves log o) told.1 leaves)
 refused_o9 log found (Err errors.NoMemory) told none leaves = tt
 
-passes : (test : ℕ → Bool) (xs : List ℕ) (x : ℕ) → find test xs ≡ Some x → test x ≡ true
+pub passes : (test : ℕ → Bool) (xs : List ℕ) (x : ℕ) → find test xs ≡ Some x → test x ≡ true
 passes test [] x is = absurd (none-some x is)
 passes test (y ∷ xs) x is = by (test y) refl is (passes test xs x)
   where

@@ -16,3 +16,4 @@ pub mod Timed
 pub mod Taken
 pub mod Going
 pub mod Judged
+pub mod Judgement

@@ -1,6 +1,7 @@
 pub mod InStream
 pub mod Refusal
 pub mod Legs
+pub mod Judgement
 pub mod Rows
 pub mod Bounds
 pub mod Holding

@@ -1,5 +1,5 @@
 //! The least order of a log's entries.
-ghost use Rattle.std.specs.Prelude.{◌≡◌, Some, IfOk};
+ghost use Rattle.std.specs.Prelude.{◌≡◌, ◌++◌, ◌∷◌, [], Some, IfOk, if◌then◌else◌};
 ghost use Rattle.log_entry.specs.declared.log.Entry.{Entry as AnEntry};
 ghost use Rattle.log_entry.specs.Parts.{is_end as is_end_entry, is_some_and};
 ghost use Rattle.order_rules.specs.Orderly.{LeastOrderLeaves};
@@ -30,6 +30,17 @@ fn is_end(l: &Log, leg: Leg) -> bool
     matches!(entry_of(l, leg), Entry::End { .. })
 }
 
+/// Adds an entry to the legs, unless it is an End.
+fn add(l: &Log, leg: Leg, legs: &mut Vec<Leg>) -> Result<(), AllocError>
+    requires { (e : AnEntry) × (entry_at l.now leg.hart leg.entry ≡ Some e) }
+    ensures { IfOk result (λ _. legs.new.items ≡ if is_some_and (entry_at l.now leg.hart leg.entry) is_end_entry then legs.old.items else legs.old.items ++ leg ∷ []) }
+{
+    if !is_end(l, leg) {
+        legs.push(leg)?;
+    }
+    Ok(())
+}
+
 /// The entries that the least order takes, without the Ends.
 pub(crate) fn least_legs(alloc: Global, l: &Log) -> Result<Vec<Leg>, AllocError>
     requires { IsSmall l.now }
@@ -38,9 +49,7 @@ pub(crate) fn least_legs(alloc: Global, l: &Log) -> Result<Vec<Leg>, AllocError>
     let mut cursor = Cursor::start(alloc, l)?;
     let mut legs = Vec::new(alloc);
     while let Some(leg) = cursor.step(l) {
-        if !is_end(l, leg) {
-            legs.push(leg)?;
-        }
+        add(l, leg, &mut legs)?;
     }
     Ok(legs)
 }
