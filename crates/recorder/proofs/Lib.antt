@@ -1,0 +1,10 @@
+pub mod Moving
+pub mod Stepping
+pub mod Asking
+pub mod Soundness
+pub mod Going
+pub mod Held
+pub mod Ending
+pub mod Turning
+pub mod Ordinals
+pub mod Coming

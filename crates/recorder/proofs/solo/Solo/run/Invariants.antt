@@ -1,0 +1,10 @@
+use Rattle.std.proofs.Common.{◌≡◌, ◌-◌}
+use Rattle.recorder.specs.Turns.{Went}
+use Rattle.recorder.proofs.solo.Solo.run.Given as goal
+
+-- the recorder went on to here, and the console failed at nothing
+abbrev pub invariant-turns : goal.invariant-turns
+invariant-turns g l = Went l.initial.outside l.outside l.initial.self l.self × (l.outside.faults ≡ l.initial.outside.faults)
+
+abbrev pub decreases-turns : goal.decreases-turns
+decreases-turns g l = l.self.limit - l.self.run.count

@@ -1,0 +1,10 @@
+//! The recorder: from an image, a console and a clock to a log and the state in which the run ended
+//! (docs/recorder.md).
+#![tactic(auto)]
+
+mod lone_run;
+mod outside;
+mod record;
+mod solo;
+
+pub use record::{OutOfMemory, Recorded, record_one};
