@@ -3,8 +3,8 @@
 #![tactic(auto)]
 
 mod lone_run;
-mod outside;
 mod record;
 mod solo;
+mod world;
 
 pub use record::{OutOfMemory, Recorded, record_one};

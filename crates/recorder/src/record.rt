@@ -4,7 +4,7 @@ ghost use Rattle.std.specs.Prelude.{◌≡◌, ◌≤◌, IfOk};
 ghost use Rattle.recorder.specs.Running.{at_start};
 ghost use Rattle.recorder.specs.Kept.{Comes};
 
-use crate::outside::Outside;
+use crate::world::Outside;
 use crate::solo::{Ended, Solo};
 use elf_image::Image;
 use flat_machine::Final;

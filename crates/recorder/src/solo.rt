@@ -13,7 +13,7 @@ ghost use Rattle.recorder.specs.Added.{Polls, Accesses, Touches};
 ghost use Rattle.recorder.specs.Turns.{IsGoing, LegTo, GainsTo, PollsTo, GoesTo, TurnsTo, EndsBy};
 
 use crate::lone_run::{LoneRun, Stepped};
-use crate::outside::Outside;
+use crate::world::Outside;
 use device_board::{Devices, Touched};
 use elf_image::Image;
 use flat_machine::{Bytes, Counts, Final, Harts, Memory, Ram};
