@@ -73,7 +73,7 @@ module _ {S V : Type 0} (flat : Flat S V) (harts : ℕ) (Good : S → Type 0) (s
   places_after h (Makes e) places = slice_set places h (slice_index places h + 1)
   places_after h item places = places
 
-  same_places : (s t : Replay S) (act : Act) → acted flat s act ≡ Some t → t.cursor ≡ s.cursor
+  pub same_places : (s t : Replay S) (act : Act) → acted flat s act ≡ Some t → t.cursor ≡ s.cursor
   same_places s t act e = sym (ap (λ (x : Replay S). x.cursor) (mapped (λ (f : S). record s { flat = f }) (flat.next s.flat act) t e).2)
 
   yield_places : (s t : Replay S) (h page : ℕ) (left : Option Mode) (b : Bool) → option_map (holds flat page h left) (if b then acted flat s (Lose h) else Some s) ≡ Some t → t.cursor ≡ s.cursor
@@ -82,14 +82,14 @@ module _ {S V : Type 0} (flat : Flat S V) (harts : ℕ) (Good : S → Type 0) (s
       sym (ap (λ (x : Replay S). x.cursor) a.2) ∙ same_places s a.0 (Lose h) a.1
   yield_places s t h page left false e = sym (ap (λ (x : Replay S). x.cursor) (same_Some _ _ e))
 
-  entry_places : (s t : Replay S) (h : ℕ) (e : Entry) → effect flat s h e ≡ Some t → t.cursor ≡ s.cursor
+  pub entry_places : (s t : Replay S) (h : ℕ) (e : Entry) → effect flat s h e ≡ Some t → t.cursor ≡ s.cursor
   entry_places s t h (entries.Gain count page seq mode waits) is = sym (ap (λ (x : Replay S). x.cursor) (same_Some _ _ is))
   entry_places s t h (entries.Yield count page seq left) is = yield_places s t h page left (ends_reservation flat s h page) is
   entry_places s t h (entries.Poll count ord time bits) is = same_places s t (Poll h time) is
   entry_places s t h (entries.Touch count ord input) is = same_places s t (Touch h input) is
   entry_places s t h (entries.End count) is = absurd (none-some _ is)
 
-  item_places : (s t : Replay S) (h : ℕ) (item : Item) → made flat s h item ≡ Some t → t.cursor.places ≡ places_after h item s.cursor.places
+  pub item_places : (s t : Replay S) (h : ℕ) (item : Item) → made flat s h item ≡ Some t → t.cursor.places ≡ places_after h item s.cursor.places
   item_places s t h Ended is = absurd (none-some _ is)
   item_places s t h Move is = ap (λ (c : Cursor). c.places) (same_places s t (Run h) is)
   item_places s t h (Makes e) is =

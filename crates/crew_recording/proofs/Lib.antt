@@ -2,3 +2,11 @@ pub mod Streams
 pub mod Going
 pub mod Obeying
 pub mod Steady
+pub mod Single
+pub mod Numbering
+pub mod Fitting
+pub mod Ordered
+pub mod Rules
+pub mod Behind
+pub mod Taken
+pub mod Whole

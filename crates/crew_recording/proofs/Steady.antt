@@ -57,7 +57,7 @@ raised counts h g l = elim (eqb_tells g h) [
     here : slice_index (counted_up h counts) h ≡ slice_index counts h + 1
     here = index_is (counted_up h counts) h (slice_index counts h + 1) (set_here counts h (slice_index counts h + 1) l)
 
-up_by_one : (counts : List ℕ) (h : ℕ) → h < length counts → slice_index (counted_up h counts) h ≡ slice_index counts h + 1
+pub up_by_one : (counts : List ℕ) (h : ℕ) → h < length counts → slice_index (counted_up h counts) h ≡ slice_index counts h + 1
 up_by_one counts h l = index_is (counted_up h counts) h (slice_index counts h + 1) (set_here counts h (slice_index counts h + 1) l)
 
 -- what an act leaves of the harts and the counts
@@ -133,7 +133,7 @@ no_place zero h = refl
 no_place (suc n) zero = refl
 no_place (suc n) (suc h) = no_place n h
 
-first_tidy : (pages harts : ℕ) (first : FlatState) → IsBoard harts first → IsTidy board harts (IsBoard harts) (board_steady harts) (first_recording pages harts first)
+pub first_tidy : (pages harts : ℕ) (first : FlatState) → IsBoard harts first → IsTidy board harts (IsBoard harts) (board_steady harts) (first_recording pages harts first)
 first_tidy pages harts first on = record {
   good = on;
   streams = replicate_size harts [];

@@ -5,6 +5,8 @@ use Rattle.flat_machine.specs.State.{FlatState}
 use Rattle.replay_model.specs.Board.{board}
 use Rattle.replay_model.specs.State.{start}
 use Rattle.replay_model.specs.Items.{Item, IsFullOrder}
+use Rattle.order_rules.specs.Orderly.{IsOrderly}
+use Rattle.crew_recording.specs.Allowed.{AreAllowed}
 use Rattle.crew_recording.specs.Recording.{Recording, Records, first_recording, log_of_recording}
 
 -- a board with so many harts, each with a count
@@ -17,3 +19,9 @@ abbrev pub RunsAreObeyed : Type 0
 RunsAreObeyed = (pages limit harts : ℕ) (image : List ℕ) (cause : Cause) (first : FlatState) (items : List (ℕ × Item)) (r : Recording FlatState)
     → IsBoard harts first → Records board (first_recording pages harts first) items r
     → IsFullOrder board (log_of_recording board pages limit image cause r) (start (log_of_recording board pages limit image cause r) first) (map (λ x. x.0) items) r.at
+
+-- where each item is allowed, the log is orderly
+abbrev pub RunsAreOrderly : Type 0
+RunsAreOrderly = (pages limit harts : ℕ) (image : List ℕ) (cause : Cause) (first : FlatState) (items : List (ℕ × Item)) (r : Recording FlatState) (is : Records board (first_recording pages harts first) items r)
+    → IsBoard harts first → ((h : ℕ) → board.count first h ≡ 0) → AreAllowed board pages limit (first_recording pages harts first) r items is
+    → IsOrderly (log_of_recording board pages limit image cause r)
