@@ -34,9 +34,12 @@ held_of_nobody pages harts page g = elim (cases_lt page pages) [
 whole_pages : (image : Image) → IsWhole image → (length image.bytes / image.unit) * image.unit ≡ length image.bytes
 whole_pages image whole = subst (λ u. (length image.bytes / u) * u ≡ length image.bytes) (sym whole.unit) (let size = whole.size in omega (arith, size))
 
+frames_number : (id harts : ℕ) (image : Image) → length (run_at_start id harts image).frames.pages ≡ length image.bytes / image.unit
+frames_number id harts image = length-replicate (length image.bytes / image.unit) (replicate image.unit 0)
+
 pub start_is_one : (id harts : ℕ) (image : Image) → IsWhole image → IsOneRun (run_at_start id harts image)
 start_is_one id harts image whole =
-    let long : length (replicate (length image.bytes / image.unit) (replicate image.unit 0)) ≡ length image.bytes / image.unit = length-replicate (length image.bytes / image.unit) (replicate image.unit 0) in
+    let long = frames_number id harts image in
     record {
       unit = whole.unit;
       pages = long ∙ subst (λ u. length image.bytes / u ≡ image.pages) (sym whole.unit) (let size = whole.size in omega (arith, size));
@@ -48,7 +51,7 @@ start_agrees id harts image whole l s (flat, table) =
     let f : ℕ → Hart = λ k. hart_at_start k harts image.pages image.entry in
     let harts_are : s.flat.harts ≡ map f (range_with_len 0 harts) = ap (λ (z : FlatState). z.harts) flat in
     let number : length s.flat.harts ≡ harts = ap length harts_are ∙ length-map-range_with_len f 0 harts in
-    let long : length (replicate (length image.bytes / image.unit) (replicate image.unit 0)) ≡ length image.bytes / image.unit = length-replicate (length image.bytes / image.unit) (replicate image.unit 0) in
+    let long = frames_number id harts image in
     let rows_are : length s.holders ≡ length image.bytes / image.unit = ap length table ∙ length-replicate (length image.bytes / image.unit) (replicate harts None) in
     record {
       unit_is = whole.unit;

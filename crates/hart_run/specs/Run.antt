@@ -1,4 +1,4 @@
--- A hart's run on frames of its own: what it holds of each page, and what its next move asks for (docs/recorder.md).
+-- A hart's run on frames of its own: what it holds of each page, and what its next move asks for (docs/pages.md).
 use Rattle.std.specs.Prelude.{ℕ, ◌≡◌, ◌+◌, ◌*◌, ◌/◌, ◌%◌, ◌<◌, ◌≤◌, ◌==◌, ◌&&◌, nat_lt, if◌then◌else◌, Bool, find, length, List, [], ◌∷◌, replicate, slice_get, slice_set, Option, Some, None, IsSome, unwrap_or}
 use Rattle.std.specs.Option.{option_map}
 use Rattle.rv_words.specs.declared.shared.Mode.{Mode}
