@@ -27,6 +27,3 @@ pub use orderly::{Leg, Orderly, least_order, put_in_order};
 pub fn each_log_is_judged()
     ensures { EachIsJudged }
 {}
-
-#[cfg(test)]
-mod tests;

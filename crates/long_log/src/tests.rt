@@ -1,0 +1,203 @@
+use crate::making::long_log;
+use crate::{measure, spell};
+use anyhow::{Result, anyhow};
+use log_entry::{Cause, Entries, Entry, Log, Mode, Streams, WaitFor, Waits};
+use log_format::read_log;
+use log_order::{Leg, OrderError, Orderly, least_order, put_in_order};
+use std::alloc::Global;
+
+fn log(pages: u16, limit: u64, streams: Vec<Entries>) -> Log {
+    Log {
+        pages,
+        limit,
+        image: [0; 32],
+        streams: Streams::of(streams),
+        cause: Cause::Limit,
+    }
+}
+
+fn poll(ord: u32) -> Entry {
+    Entry::Poll {
+        count: 0,
+        ord,
+        time: 5,
+        bits: 0,
+    }
+}
+
+fn gain(alloc: Global, count: u64, page: u32, seq: u32) -> Entry {
+    let waits = Waits::of(Vec::new(alloc));
+    let mode = Mode::Read;
+    Entry::Gain {
+        count,
+        page,
+        seq,
+        mode,
+        waits,
+    }
+}
+
+fn gain_after(alloc: Global, seq: u32, hart: u8, count: u64) -> Result<Entry> {
+    let waits = Waits::of(vec![in alloc; WaitFor { hart, count }]?);
+    Ok(Entry::Gain {
+        count: 3,
+        page: 1,
+        seq,
+        mode: Mode::Write,
+        waits,
+    })
+}
+
+fn give_up(count: u64, seq: u32) -> Entry {
+    let left = None;
+    Entry::Yield {
+        count,
+        page: 1,
+        seq,
+        left,
+    }
+}
+
+/// The log of one hart that stores 7 to STOP in its third move.
+const SMALLEST: [u8; 123] = [
+    0x52, 0x56, 0x54, 0x4c, 1, 1, 1, 0, // magic, version, harts, pages
+    100, 0, 0, 0, 0, 0, 0, 0, // limit
+    0xe4, 0xd0, 0x10, 0x19, 0x49, 0x99, 0xe7, 0x2f, 0xa6, 0x50, 0x95, 0x5c, 0xac, 0xa4, 0x37, 0xd5,
+    0xa7, 0xfe, 0x14, 0xed, 0x0a, 0xd1, 0x12, 0x12, 0xd4, 0x1e, 0xc4, 0xc7, 0x64, 0x32, 0xf8, 0x05,
+    4, 0, 0, 0, // entries
+    3, 0, 0, 0, 0, 0, 0, 0, 0, 0, 0, 0, 0, 5, 0, 0, 0, 0, 0, 0, 0, 0, // Poll
+    1, 0, 0, 0, 0, 0, 0, 0, 0, 0, 0, 0, 0, 0, 0, 1, 0, // Gain
+    4, 2, 0, 0, 0, 0, 0, 0, 0, 1, 0, 0, 0, 0, 0, 0, 0, 0, 0, 0, 0, 0, // Touch
+    5, 3, 0, 0, 0, 0, 0, 0, 0, // End
+    1, // cause
+];
+
+/// A byte of it that is set to another value, and the rule, the hart and the entry that are told.
+const DAMAGED: [(usize, u8, u8, u8, u32); 3] = [
+    (8, 2, 1, 0, 3),
+    (85, 1, 5, 0, 1),
+    (100, 2, 8, 0, 2),
+];
+
+/// Two harts that race for a word of page 1.
+fn race_log(alloc: Global) -> Result<Log> {
+    let first = Entries::of(vec![in alloc;
+        poll(0),
+        gain(alloc, 0, 0, 0),
+        gain(alloc, 1, 1, 0),
+        gain_after(alloc, 3, 1, 3)?,
+        give_up(8, 4),
+        Entry::End { count: 8 },
+    ]?);
+    let second = Entries::of(vec![in alloc;
+        poll(1),
+        gain(alloc, 0, 0, 1),
+        gain(alloc, 1, 1, 1),
+        give_up(3, 2),
+        gain_after(alloc, 5, 0, 8)?,
+        Entry::End { count: 8 },
+    ]?);
+    Ok(log(2, 8, vec![in alloc; first, second]?))
+}
+
+/// A stream of gains at count 0, each by its page and number.
+fn gains(alloc: Global, numbers: &[(u32, u32)]) -> Result<Entries> {
+    let mut entries = Vec::new(alloc);
+    for (page, seq) in numbers {
+        entries.push(gain(alloc, 0, *page, *seq))?;
+    }
+    entries.push(Entry::End { count: 0 })?;
+    Ok(Entries::of(entries))
+}
+
+/// The log is written, read again and put in order.
+fn ordered(alloc: Global, log: &Log) -> Result<Orderly> {
+    let bytes = spell(alloc, log)?;
+    Ok(put_in_order(alloc, read_log(alloc, &bytes)?)?)
+}
+
+fn refusal(alloc: Global, bytes: &[u8]) -> Result<Option<OrderError>> {
+    Ok(put_in_order(alloc, read_log(alloc, bytes)?).err())
+}
+
+fn disorderly(rule: u8, hart: u8, entry: u32) -> Option<OrderError> {
+    Some(OrderError::Disorderly { rule, hart, entry })
+}
+
+fn legs(alloc: Global, orderly: &Orderly) -> Result<Vec<Leg>> {
+    least_order(alloc, orderly).map_err(|_| anyhow!("memory ran out"))
+}
+
+#[test]
+fn the_least_order_of_one_hart_is_its_stream(rt: HostRuntime) -> Result<()> {
+    let alloc = rt.alloc();
+    let orderly = put_in_order(alloc, read_log(alloc, &SMALLEST)?)?;
+    assert_eq!(rt; orderly.log().limit, 100);
+    let hart = 0;
+    let order = [0, 1, 2].map(|entry| Leg { hart, entry });
+    assert_eq!(rt; legs(alloc, &orderly)?.as_slice(), order.as_slice());
+    Ok(())
+}
+
+#[test]
+fn the_least_order_of_a_race_waits_for_its_numbers(rt: HostRuntime) -> Result<()> {
+    let alloc = rt.alloc();
+    let orderly = ordered(alloc, &race_log(alloc)?)?;
+    let order = [
+        (0, 0),
+        (0, 1),
+        (0, 2),
+        (1, 0),
+        (1, 1),
+        (1, 2),
+        (1, 3),
+        (0, 3),
+        (0, 4),
+        (1, 4),
+    ];
+    let order = order.map(|(hart, entry)| Leg { hart, entry });
+    assert_eq!(rt; legs(alloc, &orderly)?.as_slice(), order.as_slice());
+    Ok(())
+}
+
+#[test]
+fn a_damaged_log_is_refused_by_its_least_broken_rule(rt: HostRuntime) -> Result<()> {
+    let alloc = rt.alloc();
+    for (at, value, rule, hart, entry) in DAMAGED {
+        let mut bytes = SMALLEST.to_vec(alloc)?;
+        if let Some(byte) = bytes.get_mut(at) {
+            *byte = value;
+        }
+        assert_eq!(rt; refusal(alloc, &bytes)?, disorderly(rule, hart, entry));
+    }
+    Ok(())
+}
+
+#[test]
+fn two_harts_cant_have_one_number(rt: HostRuntime) -> Result<()> {
+    let alloc = rt.alloc();
+    let streams = vec![in alloc; gains(alloc, &[(0, 0)])?, gains(alloc, &[(0, 0)])?]?;
+    let bytes = spell(alloc, &log(1, 0, streams))?;
+    assert_eq!(rt; refusal(alloc, &bytes)?, disorderly(5, 1, 0));
+    Ok(())
+}
+
+#[test]
+fn two_harts_cant_wait_for_each_other(rt: HostRuntime) -> Result<()> {
+    let alloc = rt.alloc();
+    let first = gains(alloc, &[(0, 1), (1, 0)])?;
+    let second = gains(alloc, &[(1, 1), (0, 0)])?;
+    let bytes = spell(alloc, &log(2, 0, vec![in alloc; first, second]?))?;
+    assert_eq!(rt; refusal(alloc, &bytes)?, disorderly(9, 0, 0));
+    Ok(())
+}
+
+#[test]
+fn all_entries_of_a_long_log_are_in_order(rt: HostRuntime) -> Result<()> {
+    let log = long_log(rt.alloc(), 3)?;
+    // The head, two numbers of entries, two Polls, six Gains of which one has no wait, six Yields,
+    // two Ends and the cause.
+    let size = 48 + 2 * 4 + 2 * 22 + 6 * 17 + 5 * 9 + 6 * 16 + 2 * 9 + 1;
+    assert_eq!(rt; measure(rt.alloc(), log)?, (size, 2 + 4 * 3));
+    Ok(())
+}
