@@ -3,3 +3,4 @@ pub mod Grammar
 pub mod Loop
 pub mod Ranges
 pub mod Spelling
+pub mod Sizes
