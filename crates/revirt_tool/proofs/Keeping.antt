@@ -1,0 +1,115 @@
+-- A recording that was kept keeps what the program promises.
+use Rattle.std.proofs.Common.{◌≡◌, ℕ, Bool, List, ◌++◌, length, replicate, None, IsTrue, sym, ap, ◌∙◌, subst}
+use Rattle.rv_words.specs.declared.shared.Cause.{Cause}
+use Rattle.elf_image.specs.Image.{Image, start_digest}
+use Rattle.elf_image.specs.Loading.{image_of}
+use Rattle.elf_image.specs.Rules.{broken_rule}
+use Rattle.flat_machine.specs.State.{FlatState, flat_at_start}
+use Rattle.flat_machine.specs.declared.results.Final.{Final}
+use Rattle.log_entry.specs.declared.log.Log.{Log}
+use Rattle.log_format.specs.Grammar.{spelling}
+use Rattle.report_view.specs.Report.{report}
+use Rattle.outside.specs.Causes.{Rose}
+use Rattle.order_rules.specs.Orderly.{IsOrderly}
+use Rattle.replay_model.specs.Board.{board}
+use Rattle.replay_model.specs.State.{Replay, start}
+use Rattle.replay_model.specs.Items.{IsFullOrder, Obeys, Item}
+use Rattle.replay_model.proofs.Driving.{orders_drive}
+use Rattle.solo_recording.specs.Lone.{IsLone}
+use Rattle.solo_recording.specs.Recording.{Recording, log_of_recording}
+use Rattle.solo_recording.specs.Laws.{IsRun}
+use Rattle.solo_recording.proofs.BoardClock.{clocked, alone, stays_lone}
+use Rattle.solo_recording.proofs.Solo.{orderly, obeyed}
+use Rattle.recorder.specs.Outside.{Outside}
+use Rattle.recorder.specs.Kept.{RecordsRun, Answered, Comes}
+use Rattle.revirt_tool.specs.World.{Shelf}
+use Rattle.revirt_tool.specs.Recorded.{Wish, IsFetched, HoldsNow, Keeps, is_fault}
+use Rattle.revirt_tool.specs.Serving.{KeepsAs, RecordsAs}
+use Rattle.revirt_tool.specs.declared.ending.Ending.{Ending}
+use Rattle.revirt_tool.specs.declared.ending.Ending.TheVariants.{Usage, NotBuilt, TooLong, ImageRefused, NoMemory, ShelfFault, Recorded}
+
+is_orderly : (limit : ℕ) (image : Image) (cause : Cause) (items : List Item) (r : Recording FlatState) → IsRun limit image.pages (flat_at_start image 1) items r
+    → IsOrderly (log_of_recording board limit image.pages (start_digest image) cause r)
+is_orderly limit image cause items r run =
+    orderly board IsLone clocked limit image.pages (start_digest image) cause (flat_at_start image 1) run.lone run.unmoved r items run.recorded
+
+is_full : (limit : ℕ) (image : Image) (cause : Cause) (items : List Item) (r : Recording FlatState) → IsRun limit image.pages (flat_at_start image 1) items r
+    → IsFullOrder board (log_of_recording board limit image.pages (start_digest image) cause r) (start (log_of_recording board limit image.pages (start_digest image) cause r) (flat_at_start image 1)) (replicate (length items) 0) r.at
+is_full limit image cause items r run =
+    obeyed board IsLone clocked limit image.pages (start_digest image) cause (flat_at_start image 1) run.lone run.unmoved r items run.recorded
+    (λ h. alone r.at.flat (stays_lone limit image.pages (flat_at_start image 1) r items run.lone run.unmoved run.recorded) h)
+
+obeys : (log : Log) (s t : Replay FlatState) (order : List ℕ) → IsFullOrder board log s order t → Obeys board log s order t
+obeys log s t order full = (full.0, full.1, full.2.leads)
+
+-- the shelf before and after a fetch, which changes nothing
+pub record IsSame (s m : Shelf) : Type 0 where
+  pub tells : IsTrue m.tells → IsTrue s.tells
+  pub held : IsTrue m.tells → (n : List ℕ) → m.held n ≡ s.held n
+  pub faults : m.faults ≡ s.faults
+
+keeps : (w : Wish) (file : List ℕ) (log : Log) (ended : Final) (text : List ℕ) (fault : Bool) (s t : Shelf) (o p : Outside)
+    → IsFetched w s file → broken_rule w.pages file ≡ None → Comes (image_of w.pages file) w.limit w.log_limit o p log ended
+    → HoldsNow w (spelling log) (ended.memory ++ ended.sent) s t → text ≡ report ended → fault ≡ is_fault ended.cause
+    → Keeps w text fault s t o p
+keeps w file log ended text fault s t o p fetched accepted comes holds told fault_is =
+    let run = comes.run in
+    let full = subst (λ l. IsFullOrder board l (start l (flat_at_start (image_of w.pages file) 1)) (replicate (length run.items) 0) run.end.at) (sym run.log_is) (is_full w.limit (image_of w.pages file) log.cause run.items run.end run.recorded) in
+    record {
+      file = file;
+      fetched = fetched;
+      accepted = accepted;
+      log = log;
+      entries = run.end.stream;
+      end = run.end.at;
+      head = record {
+        pages = ap (λ l. l.pages) run.log_is;
+        limit = ap (λ l. l.limit) run.log_is;
+        start_is = ap (λ l. l.image) run.log_is;
+        streams = ap (λ l. l.streams) run.log_is;
+      };
+      orderly = subst IsOrderly (sym run.log_is) (is_orderly w.limit (image_of w.pages file) log.cause run.items run.end run.recorded);
+      size = run.size;
+      items = length run.items;
+      full = full;
+      drives = orders_drive log (start log (flat_at_start (image_of w.pages file) 1)) run.end.at (replicate (length run.items) 0) (obeys log (start log (flat_at_start (image_of w.pages file) 1)) run.end.at (replicate (length run.items) 0) full);
+      ends = run.ends;
+      kept = subst (λ e. HoldsNow w (spelling log) (e.memory ++ e.sent) s t) run.ended_is holds;
+      reported = told ∙ ap report run.ended_is;
+      answered = subst (λ e. Answered o p log e.sent) run.ended_is comes.answered;
+      fault_is = fault_is ∙ ap (λ e. is_fault e.cause) run.ended_is;
+      faults = comes.faults;
+    }
+
+holds_since : (w : Wish) (log dump : List ℕ) (s m t : Shelf) → IsSame s m → (IsTrue t.tells → IsTrue m.tells) → HoldsNow w log dump m t → HoldsNow w log dump s t
+holds_since w log dump s m t same tells holds = record {
+  log_held = holds.log_held;
+  dump_held = holds.dump_held;
+  others = λ told n other no_dump. holds.others told n other no_dump ∙ same.held (tells told) n;
+  faults = holds.faults ∙ same.faults;
+}
+
+-- a run that was recorded, and what keeping it came to
+pub records : (w : Wish) (file : List ℕ) (image : Image) (log : Log) (ended : Final) (s m t : Shelf) (o p : Outside) (ending : Ending)
+    → IsFetched w s file → broken_rule w.pages file ≡ None → image ≡ image_of w.pages file → IsSame s m → (IsTrue t.tells → IsTrue m.tells)
+    → Comes image w.limit w.log_limit o p log ended → KeepsAs w log ended m t ending → RecordsAs w s t o p ending
+records w file image log ended s m t o p NoMemory fetched accepted is same tells comes kept = record {
+  held = λ told n. kept.held told n ∙ same.held (tells told) n;
+  faults = kept.faults ∙ same.faults;
+}
+records w file image log ended s m t o p ShelfFault fetched accepted is same tells comes kept = record {
+  rose = subst (λ n. Rose n t.faults) same.faults kept.rose;
+  others = λ told n other no_dump. kept.others told n other no_dump ∙ same.held (tells told) n;
+}
+records w file image log ended s m t o p (Recorded text fault) fetched accepted is same tells comes kept =
+    keeps w file log ended text.items fault s t o p fetched accepted (subst (λ i. Comes i w.limit w.log_limit o p log ended) is comes) (holds_since w (spelling log) (ended.memory ++ ended.sent) s m t same tells kept.0) kept.1 kept.2
+records w file image log ended s m t o p (Usage place) fetched accepted is same tells comes kept = absurd kept
+records w file image log ended s m t o p NotBuilt fetched accepted is same tells comes kept = absurd kept
+records w file image log ended s m t o p TooLong fetched accepted is same tells comes kept = absurd kept
+records w file image log ended s m t o p (ImageRefused rule) fetched accepted is same tells comes kept = absurd kept
+
+-- its run has one hart, with one count
+pub one_count : (image : Image) (limit log_limit : ℕ) (log : Log) (ended : Final) → RecordsRun image limit log_limit log ended → length ended.harts ≡ length ended.counts
+one_count image limit log_limit log ended run =
+    let lone = stays_lone limit image.pages (flat_at_start image 1) run.end run.items run.recorded.lone run.recorded.unmoved run.recorded.recorded in
+    ap (λ e. length e.harts) run.ended_is ∙ ap length lone.2 ∙ sym (ap length lone.3) ∙ sym (ap (λ e. length e.counts) run.ended_is)

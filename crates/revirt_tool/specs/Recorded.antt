@@ -1,0 +1,104 @@
+-- What recording a run of one hart keeps and reports: the promise of the program (docs/recorder.md, docs/replay.md).
+use Rattle.std.specs.Prelude.{ℕ, zero, suc, ◌≡◌, ◌≢◌, ◌≤◌, ◌++◌, ◌∷◌, [], Bool, true, false, List, length, replicate, slice_get, Option, Some, None, option_map, unwrap_or, IfSome, IsTrue, Ok, Err}
+use Rattle.rv_words.specs.declared.shared.Cause.{Cause}
+use Rattle.rv_words.specs.declared.shared.Cause.TheVariants as causes
+use Rattle.elf_image.specs.Image.{Image, start_digest}
+use Rattle.elf_image.specs.Loading.{image_of}
+use Rattle.elf_image.specs.Rules.{broken_rule}
+use Rattle.flat_machine.specs.State.{FlatState, flat_at_start}
+use Rattle.flat_machine.specs.Runs.{flat, final_of}
+use Rattle.log_entry.specs.declared.log.Entry.{Entry}
+use Rattle.log_entry.specs.declared.log.Entry.TheVariants.{End}
+use Rattle.log_entry.specs.declared.log.Log.{Log}
+use Rattle.log_entry.specs.Parts.{unit_of}
+use Rattle.log_entry.specs.Size.{size_of_log}
+use Rattle.log_format.specs.Grammar.{spelling}
+use Rattle.order_rules.specs.Orderly.{IsOrderly}
+use Rattle.replay_model.specs.Board.{board}
+use Rattle.replay_model.specs.State.{Replay, start}
+use Rattle.replay_model.specs.Items.{IsFullOrder}
+use Rattle.replay_model.specs.Acts.{acts_of}
+use Rattle.recorder.specs.Outside.{Outside}
+use Rattle.recorder.specs.Turns.{Ends, FaultsOf}
+use Rattle.recorder.specs.Kept.{Answered}
+use Rattle.report_view.specs.Report.{report}
+use Rattle.command_words.specs.Grammar.{job_of}
+use Rattle.command_words.specs.declared.job.Job.{Job}
+use Rattle.command_words.specs.declared.job.Job.TheVariants.{Record}
+use Rattle.revirt_tool.specs.World.{Shelf}
+use Rattle.revirt_tool.specs.declared.recording.Request.{Request}
+
+-- what the words of a recording ask for
+pub record Wish : Type 0 where
+  pub image : List ℕ
+  pub log : List ℕ
+  pub dump : Option (List ℕ)
+  pub pages : ℕ
+  pub limit : ℕ
+  pub log_limit : ℕ
+
+-- a wish by its names
+abbrev pub wish_by : Request → Wish
+wish_by r = record { image = r.image.now; log = r.log.now; dump = option_map (λ d. d.now) r.dump; pages = r.pages; limit = r.limit; log_limit = r.log_limit }
+
+abbrev pub word_at : List (List ℕ) → ℕ → List ℕ
+word_at words place = unwrap_or (slice_get words place) []
+
+-- a recording of one hart is served
+abbrev pub wish_of : List (List ℕ) → Job → Option Wish
+wish_of words (Record image log (suc zero) pages limit log_limit dump rounds) =
+    Some (record { image = word_at words image; log = word_at words log; dump = option_map (word_at words) dump; pages = pages; limit = limit; log_limit = log_limit })
+wish_of words job = None
+
+abbrev pub wish : List (List ℕ) → Option Wish
+wish words = elim (job_of words) [ Ok job ↦ wish_of words job | Err place ↦ None ]
+
+-- the most bytes of an image file
+abbrev pub longest_image : ℕ
+longest_image = 67108864
+
+-- the image that was fetched, which the shelf holds under its name, where it tells
+pub record IsFetched (w : Wish) (s : Shelf) (file : List ℕ) : Type 0 where
+  pub held : IsTrue s.tells → s.held w.image ≡ Some file
+  pub within : length file ≤ longest_image
+
+-- the log is of what the words ask and of the image's start, and has one stream
+pub record HasHead (w : Wish) (image : Image) (stream : List Entry) (log : Log) : Type 0 where
+  pub pages : log.pages ≡ w.pages
+  pub limit : log.limit ≡ w.limit
+  pub start_is : log.image ≡ start_digest image
+  pub streams : log.streams ≡ stream ∷ []
+
+abbrev pub is_fault : Cause → Bool
+is_fault causes.Fault = true
+is_fault cause = false
+
+-- the names of the log and of the dump hold these, and every other name what it held
+pub record HoldsNow (w : Wish) (log dump : List ℕ) (s t : Shelf) : Type 0 where
+  pub log_held : IsTrue t.tells → t.held w.log ≡ Some log
+  pub dump_held : IsTrue t.tells → IfSome w.dump (λ name. t.held name ≡ Some dump)
+  pub others : IsTrue t.tells → (n : List ℕ) → n ≢ w.log → w.dump ≢ Some n → t.held n ≡ s.held n
+  pub faults : t.faults ≡ s.faults
+
+-- An orderly log is kept. The order that names hart 0 once per item obeys it and is full, and drives the flat machine from
+-- the image's start to the state that is reported. What console and clock answered, and the bytes that the console took,
+-- are those of the log and of that state.
+pub record Keeps (w : Wish) (text : List ℕ) (fault : Bool) (s t : Shelf) (o p : Outside) : Type 0 where
+  pub file : List ℕ
+  pub fetched : IsFetched w s file
+  pub accepted : broken_rule w.pages file ≡ None
+  pub log : Log
+  pub entries : List Entry
+  pub end : Replay FlatState
+  pub head : HasHead w (image_of w.pages file) (entries ++ End (board.count end.flat 0) ∷ []) log
+  pub orderly : IsOrderly log
+  pub size : size_of_log (unit_of log) log.streams ≤ w.log_limit
+  pub items : ℕ
+  pub full : IsFullOrder board log (start log (flat_at_start (image_of w.pages file) 1)) (replicate items 0) end
+  pub drives : flat (image_of w.pages file) 1 (acts_of board log (start log (flat_at_start (image_of w.pages file) 1)) (replicate items 0)) ≡ Some end.flat
+  pub ends : Ends w.limit w.log_limit (record { at = end; stream = entries }) log.cause
+  pub kept : HoldsNow w (spelling log) (end.flat.memory ++ end.flat.devices.sent) s t
+  pub reported : text ≡ report (final_of end.flat log.cause)
+  pub answered : Answered o p log end.flat.devices.sent
+  pub fault_is : fault ≡ is_fault log.cause
+  pub faults : FaultsOf log.cause o p

@@ -1,0 +1,57 @@
+-- What a call does with the words, and with which status it answers (docs/command-line.md).
+use Rattle.std.specs.Prelude.{ℕ, ◌≡◌, ◌≢◌, ◌++◌, List, Some, None, IsTrue, IsOk, Err}
+use Rattle.outside.specs.Causes.{Rose}
+use Rattle.outside.specs.Fetching.{IsPast}
+use Rattle.elf_image.specs.Rules.{broken_rule}
+use Rattle.command_words.specs.Grammar.{job_of}
+use Rattle.flat_machine.specs.declared.results.Final.{Final}
+use Rattle.log_entry.specs.declared.log.Log.{Log}
+use Rattle.log_format.specs.Grammar.{spelling}
+use Rattle.report_view.specs.Report.{report}
+use Rattle.recorder.specs.Outside.{Outside}
+use Rattle.revirt_tool.specs.World.{Shelf, Sink, IsUntouched}
+use Rattle.revirt_tool.specs.Closing.{Closes}
+use Rattle.revirt_tool.specs.Recorded.{Wish, wish, longest_image, IsFetched, HoldsNow, Keeps, is_fault}
+use Rattle.revirt_tool.specs.declared.ending.Ending.{Ending}
+use Rattle.revirt_tool.specs.declared.ending.Ending.TheVariants.{Usage, NotBuilt, TooLong, ImageRefused, NoMemory, ShelfFault, Recorded}
+
+-- a recording whose image was fetched and breaks a rule
+pub record IsRefused (w : Wish) (s : Shelf) (rule : ℕ) : Type 0 where
+  pub file : List ℕ
+  pub fetched : IsFetched w s file
+  pub breaks : broken_rule w.pages file ≡ Some rule
+
+-- the shelf failed: what other names hold is as before
+pub record IsFaulty (w : Wish) (s t : Shelf) : Type 0 where
+  pub rose : Rose s.faults t.faults
+  pub others : IsTrue t.tells → (n : List ℕ) → n ≢ w.log → w.dump ≢ Some n → t.held n ≡ s.held n
+
+-- nothing was kept, and neither console nor clock were asked
+abbrev pub IsRefusal : Shelf → Shelf → Outside → Outside → Type 0
+IsRefusal s t o p = IsUntouched s t × (p ≡ o)
+
+-- what keeping a run comes to
+abbrev pub KeepsAs : Wish → Log → Final → Shelf → Shelf → Ending → Type 0
+KeepsAs w log ended s t NoMemory = IsUntouched s t
+KeepsAs w log ended s t ShelfFault = IsFaulty w s t
+KeepsAs w log ended s t (Recorded text fault) = HoldsNow w (spelling log) (ended.memory ++ ended.sent) s t × (text.items ≡ report ended) × (fault ≡ is_fault ended.cause)
+KeepsAs w log ended s t ending = ⊥
+
+-- how a recording ends
+abbrev pub RecordsAs : Wish → Shelf → Shelf → Outside → Outside → Ending → Type 0
+RecordsAs w s t o p TooLong = (IsTrue s.tells → IsPast longest_image (s.held w.image)) × IsRefusal s t o p
+RecordsAs w s t o p (ImageRefused rule) = IsRefused w s rule × IsRefusal s t o p
+RecordsAs w s t o p NoMemory = IsUntouched s t
+RecordsAs w s t o p ShelfFault = IsFaulty w s t
+RecordsAs w s t o p (Recorded report fault) = Keeps w report.items fault s t o p
+RecordsAs w s t o p ending = ⊥
+
+-- how the words end: outside the grammar, in a command that isn't built, or in a recording
+abbrev pub EndsAs : List (List ℕ) → Shelf → Shelf → Outside → Outside → Ending → Type 0
+EndsAs words s t o p (Usage place) = (job_of words ≡ Err place) × IsRefusal s t o p
+EndsAs words s t o p NotBuilt = IsOk (job_of words) × (wish words ≡ None) × IsRefusal s t o p
+EndsAs words s t o p ending = (w : Wish) × (wish words ≡ Some w) × RecordsAs w s t o p ending
+
+-- the whole contract of the top calls
+abbrev pub Serves : List (List ℕ) → Shelf → Shelf → Outside → Outside → Sink → Sink → ℕ → Type 0
+Serves words s t o p before after status = (ending : Ending) × EndsAs words s t o p ending × Closes ending before after status

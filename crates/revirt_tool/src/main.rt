@@ -1,0 +1,52 @@
+//! Records a run of a RISC-V board (docs/command-line.md).
+#![tactic(auto)]
+
+mod ending;
+mod recording;
+#[cfg(test)]
+mod tests;
+mod top;
+
+use outside::{FileShelf, OpenGate, RealClock, Sink, StdConsole, StdSink};
+use std::env;
+use std::process::ExitCode;
+pub use top::{Finish, revirt, revirt_still};
+
+/// Prints a line before there are objects for the top call, and gives its status.
+fn refuse(rt: HostRuntime, line: &[u8], status: u8) -> ExitCode {
+    let mut report = StdSink::new(rt.stdout());
+    let _ = report.put(line);
+    ExitCode::from(status)
+}
+
+fn main(rt: HostRuntime) -> ExitCode {
+    let alloc = rt.alloc();
+    let mut words = Vec::new(alloc);
+    let Ok(args) = env::args(&rt) else {
+        return refuse(rt, b"usage: word 0\n", 1);
+    };
+    for word in args.skip(1) {
+        if words.push(word).is_err() {
+            return refuse(rt, b"no memory\n", 3);
+        }
+    }
+    let mut shelf = FileShelf::new(rt);
+    let mut report = StdSink::new(rt.stdout());
+    let console = StdConsole::new(rt.stdin(), rt.stdout());
+    let clock = RealClock::new(rt);
+    let Finish {
+        status,
+        console: _,
+        clock: _,
+    } = revirt(
+        &rt,
+        alloc,
+        &words,
+        &mut shelf,
+        console,
+        clock,
+        &OpenGate,
+        &mut report,
+    );
+    ExitCode::from(status)
+}

@@ -1,0 +1,168 @@
+//! The command that records a run.
+
+ghost use Rattle.std.specs.Prelude.{◌≡◌, ◌≢◌, ◌≤◌, ◌++◌, IsTrue, IsSome, Some, List, ℕ, false, length, is_ok, IfSome, OnOk, OnErr};
+ghost use Rattle.rv_words.specs.declared.shared.Cause.TheVariants as causes;
+ghost use Rattle.log_entry.specs.Range.{in_range};
+ghost use Rattle.outside.specs.Causes.{HasCause};
+ghost use Rattle.revirt_tool.specs.Recorded.{wish_by};
+ghost use Rattle.revirt_tool.specs.Serving.{KeepsAs, RecordsAs};
+
+use crate::ending::Ending;
+use elf_image::{ImageError, read_image};
+use flat_machine::Final;
+use log_entry::{Cause, Log};
+use log_format::write_log;
+use outside::{Clock, Console, Failed, FetchError, Shelf, keep};
+use recorder::{OutOfMemory, Recorded, record_one};
+use report_view::report_text;
+use std::alloc::Global;
+
+/// The most bytes of an image file.
+const LONGEST_IMAGE: u64 = 67_108_864;
+
+/// What a recording is asked for: its files, the board's pages, and the limits of moves and of log bytes.
+#[derive(Clone, Copy, Drop)]
+pub(crate) struct Request<'a> {
+    pub image: &'a str,
+    pub log: &'a str,
+    pub dump: Option<&'a str>,
+    pub pages: u16,
+    pub limit: u64,
+    pub log_limit: u64,
+}
+
+/// How a recording ended, with the console and the clock that were handed in.
+pub(crate) struct Ended<C: Console, K: Clock> {
+    pub ending: Ending,
+    pub console: C,
+    pub clock: K,
+}
+
+/// Keeps the dump: the memory, and then the bytes sent to the console.
+fn keep_dump<S: Shelf>(shelf: &mut S, name: &str, ended: &Final) -> Result<(), Failed>
+    requires writing { S.writing shelf.old ≡ false }
+    ensures writing { S.writing shelf.new ≡ false }
+    ensures tells { IsTrue (S.tells shelf.new) → IsTrue (S.tells shelf.old) }
+    ensures kept { OnOk result (IsTrue (S.tells shelf.new) → S.held shelf.new name.now ≡ Some (ended.now.memory ++ ended.now.sent)) }
+    ensures others { IsTrue (S.tells shelf.new) → (n : List ℕ) → n ≢ name.now → S.held shelf.new n ≡ S.held shelf.old n }
+    ensures cause { HasCause (S.faults shelf.old) (S.faults shelf.new) result }
+{
+    keep(shelf, name, &[ended.memory.items(), ended.sent.items()])
+}
+
+/// Keeps the log and, where one is asked for, the dump.
+fn keep_run<S: Shelf>(
+    alloc: Global,
+    shelf: &mut S,
+    request: &Request,
+    log: &Log,
+    ended: &Final,
+) -> Ending
+    requires writing { S.writing shelf.old ≡ false }
+    requires range { IsTrue (in_range log.now) }
+    requires counts { length ended.now.harts ≡ length ended.now.counts }
+    requires stop { ended.now.cause ≡ causes.Stop → IsSome ended.now.stop }
+    requires names { IfSome request.now.dump (λ d. d.now ≢ request.now.log.now) }
+    ensures writing { S.writing shelf.new ≡ false }
+    ensures tells { IsTrue (S.tells shelf.new) → IsTrue (S.tells shelf.old) }
+    ensures keeps { KeepsAs (wish_by request.now) log.now ended.now (record { tells = S.tells shelf.old; held = S.held shelf.old; faults = S.faults shelf.old }) (record { tells = S.tells shelf.new; held = S.held shelf.new; faults = S.faults shelf.new }) result }
+{
+    let Ok(bytes) = write_log(alloc, log) else {
+        return Ending::NoMemory;
+    };
+    let Ok(report) = report_text(alloc, ended) else {
+        return Ending::NoMemory;
+    };
+    if keep(shelf, request.log, &[bytes.as_slice()]).is_err() {
+        return Ending::ShelfFault;
+    }
+    if let Some(name) = request.dump {
+        if keep_dump(shelf, name, ended).is_err() {
+            return Ending::ShelfFault;
+        }
+    }
+    Ending::Recorded {
+        report,
+        fault: ended.cause == Cause::Fault,
+    }
+}
+
+/// Records the run that is asked for.
+pub(crate) fn record<S: Shelf, C: Console, K: Clock>(
+    alloc: Global,
+    request: &Request,
+    shelf: &mut S,
+    console: C,
+    clock: K,
+) -> Ended<C, K>
+    requires writing { S.writing shelf.old ≡ false }
+    requires has { S.has shelf.old request.now.image.now }
+    requires least { 1 ≤ request.now.pages }
+    requires most { request.now.pages ≤ 4096 }
+    requires limit { request.now.limit ≤ 1000000000000 }
+    requires shortest { 1024 ≤ request.now.log_limit }
+    requires longest { request.now.log_limit ≤ 536870912 }
+    requires names { IfSome request.now.dump (λ d. d.now ≢ request.now.log.now) }
+    ensures writing { S.writing shelf.new ≡ false }
+    ensures tells { IsTrue (S.tells shelf.new) → IsTrue (S.tells shelf.old) }
+    ensures records { RecordsAs (wish_by request.now) (record { tells = S.tells shelf.old; held = S.held shelf.old; faults = S.faults shelf.old }) (record { tells = S.tells shelf.new; held = S.held shelf.new; faults = S.faults shelf.new }) (record { tells_answers = C.tells_answers console; answers = C.answers console; tells_taken = C.tells_taken console; taken = C.taken console; faults = C.faults console; tells_times = K.tells clock; times = K.answers clock }) (record { tells_answers = C.tells_answers result.console; answers = C.answers result.console; tells_taken = C.tells_taken result.console; taken = C.taken result.console; faults = C.faults result.console; tells_times = K.tells result.clock; times = K.answers result.clock }) result.ending }
+{
+    let file = match shelf.fetch(alloc, request.image, LONGEST_IMAGE) {
+        Ok(file) => file,
+        Err(error) => {
+            let ending = match error {
+                FetchError::Failed => Ending::ShelfFault,
+                FetchError::TooLong => Ending::TooLong,
+                FetchError::NoMemory => Ending::NoMemory,
+            };
+            return Ended {
+                ending,
+                console,
+                clock,
+            };
+        }
+    };
+    let image = match read_image(alloc, file.as_slice(), request.pages) {
+        Ok(image) => image,
+        Err(ImageError::Refused(rule)) => {
+            return Ended {
+                ending: Ending::ImageRefused { rule },
+                console,
+                clock,
+            };
+        }
+        Err(ImageError::NoMemory) => {
+            return Ended {
+                ending: Ending::NoMemory,
+                console,
+                clock,
+            };
+        }
+    };
+    match record_one(
+        alloc,
+        &image,
+        request.limit,
+        request.log_limit,
+        console,
+        clock,
+    ) {
+        Err(OutOfMemory { console, clock }) => Ended {
+            ending: Ending::NoMemory,
+            console,
+            clock,
+        },
+        Ok(
+            Recorded {
+                log,
+                ended,
+                console,
+                clock,
+            },
+        ) => Ended {
+            ending: keep_run(alloc, shelf, request, &log, &ended),
+            console,
+            clock,
+        },
+    }
+}

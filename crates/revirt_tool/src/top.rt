@@ -1,0 +1,141 @@
+//! The top call: what the words ask for, over the objects that are handed in.
+
+ghost use Rattle.std.specs.Prelude.{◌≡◌, ◌<◌, IsTrue, IfSome, Some, None, false, length, option_map};
+ghost use Rattle.command_words.specs.Texts.{texts};
+ghost use Rattle.command_words.specs.Grammar.{asks_free_run};
+ghost use Rattle.revirt_tool.specs.Recorded.{Wish, wish, word_at};
+ghost use Rattle.revirt_tool.specs.Serving.{EndsAs, Serves};
+
+use crate::ending::{Ending, close};
+use crate::recording::{Ended, Request, record};
+use command_words::{Job, Usage, read_words};
+use outside::{Clock, Console, Gate, Shelf, Sink};
+use std::alloc::Global;
+use std::sync::Wait;
+use std::thread::Threads;
+
+/// The exit status of a command, and what was handed in.
+#[derive(Drop)]
+pub struct Finish<C: Console, K: Clock> {
+    pub status: u8,
+    pub console: C,
+    pub clock: K,
+}
+
+/// The word at a place.
+fn word(words: &[String], place: u64) -> &str
+    requires { place < length words.now }
+    ensures { result.now ≡ word_at (texts words.now) place }
+{
+    words[place as usize].as_str()
+}
+
+/// The word at a place, where there is one.
+fn word_where(words: &[String], place: Option<u64>) -> Option<&str>
+    requires { IfSome place (λ place. place < length words.now) }
+    ensures { option_map (λ d. d.now) result ≡ option_map (word_at (texts words.now)) place }
+{
+    match place {
+        Some(place) => Some(word(words, place)),
+        None => None,
+    }
+}
+
+fn serve<S: Shelf, C: Console, K: Clock>(
+    alloc: Global,
+    words: &[String],
+    shelf: &mut S,
+    console: C,
+    clock: K,
+) -> Ended<C, K>
+    requires writing { S.writing shelf.old ≡ false }
+    requires has { (w : Wish) → wish (texts words.now) ≡ Some w → S.has shelf.old w.image }
+    ensures writing { S.writing shelf.new ≡ false }
+    ensures ends { EndsAs (texts words.now) (record { tells = S.tells shelf.old; held = S.held shelf.old; faults = S.faults shelf.old }) (record { tells = S.tells shelf.new; held = S.held shelf.new; faults = S.faults shelf.new }) (record { tells_answers = C.tells_answers console; answers = C.answers console; tells_taken = C.tells_taken console; taken = C.taken console; faults = C.faults console; tells_times = K.tells clock; times = K.answers clock }) (record { tells_answers = C.tells_answers result.console; answers = C.answers result.console; tells_taken = C.tells_taken result.console; taken = C.taken result.console; faults = C.faults result.console; tells_times = K.tells result.clock; times = K.answers result.clock }) result.ending }
+    ensures as_handed_in { wish (texts words.now) ≡ None → (result.console ≡ console) × (result.clock ≡ clock) }
+{
+    match read_words(words) {
+        Err(Usage { place }) => Ended {
+            ending: Ending::Usage { place },
+            console,
+            clock,
+        },
+        Ok(
+            Job::Record {
+                image,
+                log,
+                harts: 1,
+                pages,
+                limit,
+                log_limit,
+                dump,
+                rounds: _,
+            },
+        ) => {
+            let request = Request {
+                image: word(words, image),
+                log: word(words, log),
+                dump: word_where(words, dump),
+                pages,
+                limit,
+                log_limit,
+            };
+            record(alloc, &request, shelf, console, clock)
+        }
+        Ok(_) => Ended {
+            ending: Ending::NotBuilt,
+            console,
+            clock,
+        },
+    }
+}
+
+/// Serves every command but free runs, and returns.
+pub fn revirt_still<T: Threads + Sync, S: Shelf, C: Console, K: Clock, G: Gate, R: Sink>(
+    _rt: &T,
+    alloc: Global,
+    words: &[String],
+    shelf: &mut S,
+    console: C,
+    clock: K,
+    _gate: &G,
+    report: &mut R,
+) -> Finish<C, K>
+    requires still { asks_free_run (texts words.now) ≡ false }
+    requires writing { S.writing shelf.old ≡ false }
+    requires has { (w : Wish) → wish (texts words.now) ≡ Some w → S.has shelf.old w.image }
+    ensures writing { S.writing shelf.new ≡ false }
+    ensures serves { Serves (texts words.now) (record { tells = S.tells shelf.old; held = S.held shelf.old; faults = S.faults shelf.old }) (record { tells = S.tells shelf.new; held = S.held shelf.new; faults = S.faults shelf.new }) (record { tells_answers = C.tells_answers console; answers = C.answers console; tells_taken = C.tells_taken console; taken = C.taken console; faults = C.faults console; tells_times = K.tells clock; times = K.answers clock }) (record { tells_answers = C.tells_answers result.console; answers = C.answers result.console; tells_taken = C.tells_taken result.console; taken = C.taken result.console; faults = C.faults result.console; tells_times = K.tells result.clock; times = K.answers result.clock }) (record { tells = R.tells report.old; written = R.written report.old; faults = R.faults report.old }) (record { tells = R.tells report.new; written = R.written report.new; faults = R.faults report.new }) result.status }
+    ensures as_handed_in { wish (texts words.now) ≡ None → (result.console ≡ console) × (result.clock ≡ clock) }
+{
+    let Ended {
+        ending,
+        console,
+        clock,
+    } = serve(alloc, words, shelf, console, clock);
+    Finish {
+        status: close(alloc, ending, report),
+        console,
+        clock,
+    }
+}
+
+/// Serves what the words ask for.
+pub fn revirt<T: Threads + Wait + Sync, S: Shelf, C: Console, K: Clock, G: Gate, R: Sink>(
+    rt: &T,
+    alloc: Global,
+    words: &[String],
+    shelf: &mut S,
+    console: C,
+    clock: K,
+    gate: &G,
+    report: &mut R,
+) -> Finish<C, K>
+    requires writing { S.writing shelf.old ≡ false }
+    requires has { (w : Wish) → wish (texts words.now) ≡ Some w → S.has shelf.old w.image }
+    ensures writing { S.writing shelf.new ≡ false }
+    ensures serves { Serves (texts words.now) (record { tells = S.tells shelf.old; held = S.held shelf.old; faults = S.faults shelf.old }) (record { tells = S.tells shelf.new; held = S.held shelf.new; faults = S.faults shelf.new }) (record { tells_answers = C.tells_answers console; answers = C.answers console; tells_taken = C.tells_taken console; taken = C.taken console; faults = C.faults console; tells_times = K.tells clock; times = K.answers clock }) (record { tells_answers = C.tells_answers result.console; answers = C.answers result.console; tells_taken = C.tells_taken result.console; taken = C.taken result.console; faults = C.faults result.console; tells_times = K.tells result.clock; times = K.answers result.clock }) (record { tells = R.tells report.old; written = R.written report.old; faults = R.faults report.old }) (record { tells = R.tells report.new; written = R.written report.new; faults = R.faults report.new }) result.status }
+    ensures as_handed_in { wish (texts words.now) ≡ None → (result.console ≡ console) × (result.clock ≡ clock) }
+{
+    revirt_still(rt, alloc, words, shelf, console, clock, gate, report)
+}
