@@ -144,4 +144,4 @@ pub finished : {E : Type 0} (image : Image) (limit log_limit pages : ℕ) (diges
 finished image limit log_limit pages digest o p r s cause (Err e) whole start is_pages is_digest ends log final = tt
 finished image limit log_limit pages digest o p r s cause (Ok x) whole start is_pages is_digest ends log final =
     comes image limit log_limit o p s cause x.0 x.1 whole (subst (λ r. EndsBy o p r s (ended.By cause)) start ends)
-      (log ∙ ap₂ (λ n d. log_of_recording board s.limit n d cause (recording_of s)) is_pages is_digest) final
+    (log ∙ ap₂ (λ n d. log_of_recording board s.limit n d cause (recording_of s)) is_pages is_digest) final

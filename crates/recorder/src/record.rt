@@ -4,8 +4,8 @@ ghost use Rattle.std.specs.Prelude.{◌≡◌, ◌≤◌, IfOk};
 ghost use Rattle.recorder.specs.Running.{at_start};
 ghost use Rattle.recorder.specs.Kept.{Comes};
 
-use crate::world::Outside;
 use crate::solo::{Ended, Solo};
+use crate::world::Outside;
 use elf_image::Image;
 use flat_machine::Final;
 use log_entry::Log;
