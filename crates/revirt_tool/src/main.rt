@@ -3,8 +3,6 @@
 
 mod ending;
 mod recording;
-#[cfg(test)]
-mod tests;
 mod top;
 
 use outside::{FileShelf, OpenGate, RealClock, Sink, StdConsole, StdSink};
