@@ -3,6 +3,8 @@
 
 mod ending;
 mod recording;
+#[cfg(test)]
+mod tests;
 mod top;
 
 use outside::{FileShelf, OpenGate, RealClock, Sink, StdConsole, StdSink};

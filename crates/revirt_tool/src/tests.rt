@@ -1,0 +1,482 @@
+use crate::{Finish, revirt};
+use log_entry::{Entry, Log};
+use log_format::read_log;
+use outside::{Asked, MemClock, MemConsole, MemShelf, MemSink, OpenGate};
+use std::alloc::Global;
+use std::sync::Wait;
+use std::test::Fail;
+use std::thread::Threads;
+
+/// A command line over the guest `g`, a console with these answers and then End, and a clock that answers
+/// the same each time, with the numbers of the calls that fail; and what it comes to: its status, lines that
+/// its text has, the length of the log `l`, and each entry of the log by its letter and count.
+#[derive(Drop)]
+struct Row {
+    line: &'static str,
+    guest: &'static [u32],
+    answers: &'static [Asked],
+    time: u64,
+    shelf_fails: &'static [u64],
+    console_fails: &'static [u64],
+    sink_fails: &'static [u64],
+    status: u8,
+    lines: &'static str,
+    length: usize,
+    entries: &'static str,
+}
+
+fn plain_row(line: &'static str, guest: &'static [u32], status: u8, lines: &'static str) -> Row {
+    Row {
+        line,
+        guest,
+        answers: &[],
+        time: 5,
+        shelf_fails: &[],
+        console_fails: &[],
+        sink_fails: &[],
+        status,
+        lines,
+        length: 0,
+        entries: "",
+    }
+}
+
+/// LUI x1; ADDI x2 = 7; SW to STOP.
+fn smallest() -> &'static [u32] {
+    &[0x1000_00b7, 0x0070_0113, 0x0020_a423]
+}
+
+/// JAL to itself.
+fn round() -> &'static [u32] {
+    &[0x0000_006f]
+}
+
+/// LUI x1; ADDI x2 = 0x41; three stores to TX.
+fn sends() -> &'static [u32] {
+    &[
+        0x1000_00b7,
+        0x0410_0113,
+        0x0020_a223,
+        0x0020_a223,
+        0x0020_a223,
+    ]
+}
+
+/// Runs that end at a limit.
+fn limits() -> [Row; 4] {
+    let mut none = plain_row("record g l --pages 1 --limit 0", round(), 0, "cause limit");
+    none.length = 62;
+    none.entries = "e0";
+    let mut first = plain_row(
+        "record g l --pages 1 --limit 4096",
+        round(),
+        0,
+        "cause limit\nhart 0 count 4096 pc 80000000",
+    );
+    first.length = 101;
+    first.entries = "p0 g0 e4096";
+    let mut second = plain_row(
+        "record g l --pages 1 --limit 4097",
+        round(),
+        0,
+        "cause limit",
+    );
+    second.length = 123;
+    second.entries = "p0 g0 p4096 e4097";
+    let mut traps = plain_row(
+        "record g l --pages 1 --limit 2",
+        &[],
+        0,
+        "hart 0 count 2 pc 00000000\ncsr 00001800 00000000 00000000 00000000 00000000 00000001 00000000 00000000\ncounters 0000000000000002 0000000000000000",
+    );
+    traps.length = 101;
+    traps.entries = "p0 g0 e2";
+    [none, first, second, traps]
+}
+
+/// Runs whose pages, timer, software interrupt and console are asked for.
+fn devices() -> [Row; 4] {
+    let mut pages = plain_row(
+        "record g l --pages 2 --limit 5",
+        &[
+            0x8000_10b7,
+            0x1000_a12f,
+            0x0040_8213,
+            0x1812_21af,
+            0x1810_a2af,
+        ],
+        0,
+        "cause limit\nhart 0 count 5 pc 80000014\nx0 00000000 80001000 00000000 00000001 80001004 00000001 00000000 00000000",
+    );
+    pages.length = 118;
+    pages.entries = "p0 g0 g1 e5";
+    let mut timer = plain_row(
+        "record g l --pages 1 --limit 4",
+        &[0x0800_0093, 0x3040_9073, 0x3004_6073],
+        0,
+        "hart 0 count 4 pc 00000000\ncsr 00001880 00000080 00000000 00000000 8000000c 80000007 00000000 00000080\ncounters 0000000000000004 0000000000000003",
+    );
+    timer.time = u64::MAX;
+    timer.length = 101;
+    timer.entries = "p0 g0 e4";
+    let mut software = plain_row(
+        "record g l --pages 1 --limit 6",
+        &[
+            0x0200_00b7,
+            0x0010_0113,
+            0x0020_a023,
+            0x3440_21f3,
+            0x0000_a023,
+            0x3440_2273,
+        ],
+        0,
+        "x0 00000000 02000000 00000001 00000008 00000000 00000000 00000000 00000000",
+    );
+    software.length = 145;
+    software.entries = "p0 g0 t2 t4 e6";
+    let mut input = plain_row(
+        "record g l --pages 1 --limit 100",
+        &[
+            0x1000_00b7,
+            0x0000_a103,
+            0x0000_a183,
+            0x0000_a203,
+            0x0000_a423,
+        ],
+        0,
+        "cause stop 0\nhart 0 count 5 pc 80000014\nx0 00000000 10000000 ffffffff 00000041 ffffffff 00000000 00000000 00000000",
+    );
+    input.answers = &[Asked::Nothing, Asked::Byte(0x41)];
+    input.length = 189;
+    input.entries = "p0 g0 t1 t2 t3 t4 e5";
+    [pages, timer, software, input]
+}
+
+/// Runs in which something fails, and one whose log is full.
+fn faults() -> [Row; 9] {
+    let words = "record g l --pages 1 --limit 100 --dump d";
+    let mut console = plain_row(words, sends(), 5, "cause fault");
+    console.console_fails = &[2];
+    console.length = 145;
+    console.entries = "p0 g0 t2 t3 e4";
+    let mut unkept = plain_row(words, sends(), 4, "shelf fault");
+    unkept.console_fails = &[2];
+    unkept.shelf_fails = &[5];
+    unkept.length = 145;
+    unkept.entries = "p0 g0 t2 t3 e4";
+    let mut unprinted = plain_row(words, sends(), 5, "");
+    unprinted.console_fails = &[2];
+    unprinted.sink_fails = &[0];
+    unprinted.length = 145;
+    unprinted.entries = "p0 g0 t2 t3 e4";
+    let mut report = plain_row(words, smallest(), 11, "");
+    report.sink_fails = &[0];
+    report.length = 123;
+    report.entries = "p0 g0 t2 e3";
+    let mut fetch = plain_row(words, smallest(), 4, "shelf fault");
+    fetch.shelf_fails = &[0];
+    let mut begin = plain_row(words, smallest(), 4, "shelf fault");
+    begin.shelf_fails = &[1];
+    let mut append = plain_row(words, smallest(), 4, "shelf fault");
+    append.shelf_fails = &[2];
+    let mut finish = plain_row(words, smallest(), 4, "shelf fault");
+    finish.shelf_fails = &[3];
+    let missing = plain_row("record h l", smallest(), 4, "shelf fault");
+    [
+        console, unkept, unprinted, report, fetch, begin, append, finish, missing,
+    ]
+}
+
+/// Commands that are refused before anything is begun.
+fn refusals() -> [Row; 12] {
+    [
+        plain_row("", smallest(), 1, "usage: word 0"),
+        plain_row("record g", smallest(), 1, "usage: word 2"),
+        plain_row("record g g", smallest(), 1, "usage: word 2"),
+        plain_row("record g l --harts 9", smallest(), 1, "usage: word 4"),
+        plain_row("record g l --limit 05", smallest(), 1, "usage: word 4"),
+        plain_row("record g l --dump l", smallest(), 1, "usage: word 4"),
+        plain_row("replay g l --one --rounds", smallest(), 1, "usage: word 4"),
+        plain_row("record g l --harts 2", smallest(), 12, "not built"),
+        plain_row("replay g l", smallest(), 12, "not built"),
+        plain_row("inspect l", smallest(), 12, "not built"),
+        plain_row("trace g l 0 0 3", smallest(), 12, "not built"),
+        plain_row("sample 7", smallest(), 12, "not built"),
+    ]
+}
+
+/// The words as bytes, little-endian, in order.
+fn bytes_of(alloc: Global, words: &[u32]) -> Result<Vec<u8>, Fail> {
+    let mut bytes = Vec::new(alloc);
+    for word in words {
+        bytes.extend_from_slice(&word.to_le_bytes())?;
+    }
+    Ok(bytes)
+}
+
+fn words_of(alloc: Global, line: &str) -> Result<Vec<String>, Fail> {
+    let mut words = Vec::new(alloc);
+    for word in line.split_ascii_whitespace() {
+        words.push(String::from_str(alloc, word)?)?;
+    }
+    Ok(words)
+}
+
+/// What a run came to.
+#[derive(Drop)]
+struct Ran {
+    status: u8,
+    shelf: MemShelf,
+    report: MemSink,
+    console: MemConsole,
+}
+
+fn serve<T: Threads + Wait + Sync>(
+    rt: &T,
+    alloc: Global,
+    row: &Row,
+    file: &[u8],
+) -> Result<Ran, Fail> {
+    let words = words_of(alloc, row.line)?;
+    let mut shelf = MemShelf::start(alloc, 100_000, row.shelf_fails)?;
+    shelf.hold("g", file);
+    let mut report = MemSink::start(alloc, 10_000, row.sink_fails)?;
+    let console = MemConsole::start(alloc, row.answers, Asked::End, 100, row.console_fails)?;
+    let clock = MemClock::start(row.time, 0);
+    let Finish {
+        status,
+        console,
+        clock: _,
+    } = revirt(
+        rt,
+        alloc,
+        &words,
+        &mut shelf,
+        console,
+        clock,
+        &OpenGate,
+        &mut report,
+    );
+    Ok(Ran {
+        status,
+        shelf,
+        report,
+        console,
+    })
+}
+
+/// Whether a text has all these lines.
+fn has_lines(text: &[u8], lines: &str) -> bool {
+    let Ok(text) = std::str::from_utf8(text) else {
+        return false;
+    };
+    for want in lines.lines() {
+        if !text.lines().any(|line| line == want) {
+            return false;
+        }
+    }
+    true
+}
+
+/// The entries of a log, each by its letter and count.
+fn entries_of(alloc: Global, log: &Log) -> Result<String, Fail> {
+    let mut text = String::new(alloc);
+    for stream in log.streams.items() {
+        for entry in stream.items() {
+            let (letter, count) = match entry {
+                Entry::Gain { count, .. } => ("g", *count),
+                Entry::Yield { count, .. } => ("y", *count),
+                Entry::Poll { count, .. } => ("p", *count),
+                Entry::Touch { count, .. } => ("t", *count),
+                Entry::End { count } => ("e", *count),
+            };
+            if !text.is_empty() {
+                text.push_str(" ")?;
+            }
+            text.push_str(format!(in alloc; "{letter}{count}")?.as_str())?;
+        }
+    }
+    Ok(text)
+}
+
+/// Whether what is held is a log of this length with these entries; a length of 0 stands for no log.
+fn is_log(alloc: Global, held: Option<&[u8]>, length: usize, entries: &str) -> Result<bool, Fail> {
+    match held {
+        None => Ok(length == 0),
+        Some(bytes) => {
+            let log = read_log(alloc, bytes)?;
+            let text = entries_of(alloc, &log)?;
+            Ok(bytes.len() == length && text.as_str() == entries)
+        }
+    }
+}
+
+fn comes_true<T: Threads + Wait + Sync>(rt: &T, alloc: Global, row: &Row) -> Result<bool, Fail> {
+    let file = bytes_of(alloc, row.guest)?;
+    let ran = serve(rt, alloc, row, file.as_slice())?;
+    let kept = is_log(alloc, ran.shelf.held("l"), row.length, row.entries)?;
+    Ok(kept && ran.status == row.status && has_lines(ran.report.written(), row.lines))
+}
+
+#[test]
+fn limits_end_runs(rt: HostRuntime) -> Result<(), Fail> {
+    for row in limits() {
+        assert!(rt; comes_true(&rt, rt.alloc(), &row)?);
+    }
+    Ok(())
+}
+
+#[test]
+fn pages_and_devices_are_recorded(rt: HostRuntime) -> Result<(), Fail> {
+    for row in devices() {
+        assert!(rt; comes_true(&rt, rt.alloc(), &row)?);
+    }
+    Ok(())
+}
+
+#[test]
+fn each_failing_call_is_told(rt: HostRuntime) -> Result<(), Fail> {
+    for row in faults() {
+        assert!(rt; comes_true(&rt, rt.alloc(), &row)?);
+    }
+    Ok(())
+}
+
+#[test]
+fn refused_commands_begin_nothing(rt: HostRuntime) -> Result<(), Fail> {
+    for row in refusals() {
+        assert!(rt; comes_true(&rt, rt.alloc(), &row)?);
+    }
+    Ok(())
+}
+
+/// The log of the smallest guest, with limit 100.
+fn smallest_log() -> [u8; 123] {
+    [
+        0x52, 0x56, 0x54, 0x4c, 1, 1, 1, 0, // magic, version, harts, pages
+        100, 0, 0, 0, 0, 0, 0, 0, // limit
+        0xe4, 0xd0, 0x10, 0x19, 0x49, 0x99, 0xe7, 0x2f, 0xa6, 0x50, 0x95, 0x5c, 0xac, 0xa4, 0x37,
+        0xd5, 0xa7, 0xfe, 0x14, 0xed, 0x0a, 0xd1, 0x12, 0x12, 0xd4, 0x1e, 0xc4, 0xc7, 0x64, 0x32,
+        0xf8, 0x05, // start digest
+        4, 0, 0, 0, // entries
+        3, 0, 0, 0, 0, 0, 0, 0, 0, 0, 0, 0, 0, 5, 0, 0, 0, 0, 0, 0, 0, 0, // Poll
+        1, 0, 0, 0, 0, 0, 0, 0, 0, 0, 0, 0, 0, 0, 0, 1, 0, // Gain
+        4, 2, 0, 0, 0, 0, 0, 0, 0, 1, 0, 0, 0, 0, 0, 0, 0, 0, 0, 0, 0, 0, // Touch
+        5, 3, 0, 0, 0, 0, 0, 0, 0, // End
+        1, // cause
+    ]
+}
+
+fn smallest_report() -> &'static str {
+    "cause stop 7
+hart 0 count 3 pc 8000000c
+x0 00000000 10000000 00000007 00000000 00000000 00000000 00000000 00000000
+x8 00000000 00000000 00000000 00000000 00000000 00000000 00000000 00000000
+x16 00000000 00000000 00000000 00000000 00000000 00000000 00000000 00000000
+x24 00000000 00000000 00000000 00000000 00000000 00000000 00000000 00000000
+csr 00001800 00000000 00000000 00000000 00000000 00000000 00000000 00000000
+counters 0000000000000003 0000000000000003
+time 5
+console 0 e3b0c44298fc1c149afbf4c8996fb92427ae41e4649b934ca495991b7852b855
+memory 6ca3a82c26311c7eb9f88a0d9f99ed3faf6f8270f5d354205603240cb02f7c16
+"
+}
+
+fn is_kept_whole(ran: &Ran) -> bool {
+    let log = smallest_log();
+    ran.shelf.held("l") == Some(log.as_slice())
+        && ran.report.written() == smallest_report().as_bytes()
+}
+
+/// Whether a dump of one page begins with the guest and ends, behind the page, with what was sent.
+fn is_dump(dump: Option<&[u8]>, guest: &[u8], sent: &[u8]) -> bool {
+    match dump {
+        Some(bytes) => {
+            bytes.len() >= 4096
+                && bytes.len() - 4096 == sent.len()
+                && bytes.starts_with(guest)
+                && bytes.ends_with(sent)
+        }
+        None => false,
+    }
+}
+
+#[test]
+fn the_smallest_run_is_kept_and_reported(rt: HostRuntime) -> Result<(), Fail> {
+    let alloc = rt.alloc();
+    let row = plain_row(
+        "record g l --pages 1 --limit 100 --dump d",
+        smallest(),
+        0,
+        "",
+    );
+    let file = bytes_of(alloc, smallest())?;
+    let ran = serve(&rt, alloc, &row, file.as_slice())?;
+    assert_eq!(rt; ran.status, 0);
+    assert!(rt; is_kept_whole(&ran));
+    assert!(rt; is_dump(ran.shelf.held("d"), file.as_slice(), &[]));
+    Ok(())
+}
+
+#[test]
+fn a_console_that_fails_has_taken_what_the_dump_says(rt: HostRuntime) -> Result<(), Fail> {
+    let alloc = rt.alloc();
+    let mut row = plain_row("record g l --pages 1 --limit 100 --dump d", sends(), 5, "");
+    row.console_fails = &[2];
+    let file = bytes_of(alloc, sends())?;
+    let ran = serve(&rt, alloc, &row, file.as_slice())?;
+    assert_eq!(rt; ran.console.taken(), b"AA".as_slice());
+    assert!(rt; is_dump(ran.shelf.held("d"), file.as_slice(), b"AA"));
+    Ok(())
+}
+
+/// The status and the text for a file.
+fn refuses<T: Threads + Wait + Sync>(
+    rt: &T,
+    alloc: Global,
+    file: &[u8],
+    line: &str,
+) -> Result<bool, Fail> {
+    let row = plain_row("record g l --pages 1 --dump d", &[], 2, "");
+    let ran = serve(rt, alloc, &row, file)?;
+    let begun = ran.shelf.held("l").is_some() || ran.shelf.held("d").is_some();
+    Ok(!begun && ran.status == 2 && has_lines(ran.report.written(), line))
+}
+
+#[test]
+fn a_file_that_breaks_a_rule_is_refused(rt: HostRuntime) -> Result<(), Fail> {
+    let alloc = rt.alloc();
+    let large = vec![in alloc; 0u8; 4097]?;
+    assert!(rt; refuses(&rt, alloc, large.as_slice(), "image refused: I2")?);
+    assert!(rt; refuses(&rt, alloc, b"\x7fELF", "image refused: I1")?);
+    Ok(())
+}
+
+/// Whether a log has 42 Polls and this End.
+fn is_full(alloc: Global, held: Option<&[u8]>, end: &str) -> Result<bool, Fail> {
+    match held {
+        Some(bytes) => {
+            let log = read_log(alloc, bytes)?;
+            let text = entries_of(alloc, &log)?;
+            let polls = text
+                .as_str()
+                .split(' ')
+                .filter(|entry| entry.starts_with("p"))
+                .count();
+            Ok(polls == 42 && bytes.len() == 1003 && text.as_str().ends_with(end))
+        }
+        None => Ok(false),
+    }
+}
+
+#[test]
+fn a_full_log_ends_the_run(rt: HostRuntime) -> Result<(), Fail> {
+    let alloc = rt.alloc();
+    let words = "record g l --pages 1 --limit 1000000 --log-limit 1024";
+    let row = plain_row(words, round(), 0, "");
+    let file = bytes_of(alloc, round())?;
+    let ran = serve(&rt, alloc, &row, file.as_slice())?;
+    assert!(rt; has_lines(ran.report.written(), "cause full"));
+    assert!(rt; is_full(alloc, ran.shelf.held("l"), " e172032")?);
+    Ok(())
+}
