@@ -3,3 +3,4 @@ pub mod World
 pub mod Closing
 pub mod Recorded
 pub mod Serving
+pub mod Complete

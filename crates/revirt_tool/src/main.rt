@@ -10,7 +10,7 @@ mod top;
 use outside::{FileShelf, OpenGate, RealClock, Sink, StdConsole, StdSink};
 use std::env;
 use std::process::ExitCode;
-pub use top::{Finish, revirt, revirt_still};
+pub use top::{Finish, recordings_are_done, revirt, revirt_still};
 
 /// Prints a line before there are objects for the top call, and gives its status.
 fn refuse(rt: HostRuntime, line: &[u8], status: u8) -> ExitCode {

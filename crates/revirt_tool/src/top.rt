@@ -5,6 +5,7 @@ ghost use Rattle.command_words.specs.Texts.{texts};
 ghost use Rattle.command_words.specs.Grammar.{asks_free_run};
 ghost use Rattle.revirt_tool.specs.Recorded.{Wish, wish, word_at};
 ghost use Rattle.revirt_tool.specs.Serving.{EndsAs, Serves};
+ghost use Rattle.revirt_tool.specs.Complete.{IsComplete};
 
 use crate::ending::{Ending, close};
 use crate::recording::{Ended, Request, record};
@@ -139,3 +140,8 @@ pub fn revirt<T: Threads + Wait + Sync, S: Shelf, C: Console, K: Clock, G: Gate,
 {
     revirt_still(rt, alloc, words, shelf, console, clock, gate, report)
 }
+
+/// A recording of an image that is told and accepted, in which nothing fails, is done, or memory ran out.
+pub fn recordings_are_done()
+    ensures { IsComplete }
+{}

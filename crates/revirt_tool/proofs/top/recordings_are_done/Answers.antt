@@ -1,0 +1,5 @@
+use Rattle.revirt_tool.proofs.Completing.{complete}
+use Rattle.revirt_tool.proofs.top.recordings_are_done.Goals as goal
+
+pub returns : goal.returns
+returns c = complete
