@@ -1,7 +1,7 @@
 use crate::{Finish, revirt};
 use log_entry::{Entry, Log};
 use log_format::read_log;
-use outside::{Asked, MemClock, MemConsole, MemShelf, MemSink, OpenGate};
+use outside::{Asked, MemClock, MemConsole, MemShelf, MemSink, OpenGate, SureConsole};
 use std::alloc::Global;
 use std::sync::Wait;
 use std::test::Fail;
@@ -478,5 +478,28 @@ fn a_full_log_ends_the_run(rt: HostRuntime) -> Result<(), Fail> {
     let ran = serve(&rt, alloc, &row, file.as_slice())?;
     assert!(rt; has_lines(ran.report.written(), "cause full"));
     assert!(rt; is_full(alloc, ran.shelf.held("l"), " e172032")?);
+    Ok(())
+}
+
+#[test]
+fn an_image_that_is_too_long_is_refused(rt: HostRuntime) -> Result<(), Fail> {
+    let alloc = rt.alloc();
+    let file = vec![in alloc; 0u8; 67_108_865]?;
+    let words = words_of(alloc, "record g l")?;
+    let mut shelf = MemShelf::start(alloc, 67_108_866, &[])?;
+    assert!(rt; shelf.hold("g", file.as_slice()));
+    let mut report = MemSink::start(alloc, 100, &[])?;
+    let Finish { status, .. } = revirt(
+        &rt,
+        alloc,
+        &words,
+        &mut shelf,
+        SureConsole::start(),
+        MemClock::start(5, 0),
+        &OpenGate,
+        &mut report,
+    );
+    assert_eq!(rt; status, 9);
+    assert_eq!(rt; report.written(), b"too long: image\n".as_slice());
     Ok(())
 }
