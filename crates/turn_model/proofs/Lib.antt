@@ -1,5 +1,4 @@
 pub mod WorkedRecordings
-pub mod Sound
 pub mod Ways
 pub mod Making
 pub mod Turning

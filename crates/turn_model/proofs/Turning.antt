@@ -18,7 +18,7 @@ use Rattle.turn_model.specs.Entering as ways
 use Rattle.turn_model.specs.Steps.{runs, commits, passes, passes_favour, with_want, steps, rests_where_closed, polls, yields, rests_at_limit, gains, touches, goes_on}
 use Rattle.turn_model.specs.Turn.{turn, ended_by, items_made, with_row}
 use Rattle.turn_model.specs.Faithful.{IsFaithful}
-use Rattle.turn_model.proofs.Sound.{fits_all, after}
+use Rattle.crew_recording.proofs.Fitting.{fits_all, after}
 use Rattle.turn_model.proofs.Ways.{recording_of, by_one, IsSound, aside, further}
 use Rattle.turn_model.proofs.Making.{Any, To, rests_where_closed_to, polls_to, yields_come, rests_at_limit_to, gains_to, touches_to}
 use Rattle.replay_model.proofs.Driving.{mapped}

@@ -9,7 +9,7 @@ use Rattle.crew_recording.proofs.Obeying.{tidy_all}
 use Rattle.turn_model.specs.Board.{Board, Order, stream}
 use Rattle.turn_model.specs.Entering.{Way, On, Ends, Nowhere, goes}
 use Rattle.turn_model.specs.Faithful.{IsFaithful}
-use Rattle.turn_model.proofs.Sound.{FitsAt, fits_all, after}
+use Rattle.crew_recording.proofs.Fitting.{FitsAt, fits_all, after}
 
 abbrev pub recording_of : {S : Type 0} → Board S → Recording S
 recording_of b = record { at = b.at; streams = b.streams }
