@@ -10,3 +10,4 @@ pub mod Rules
 pub mod Behind
 pub mod Taken
 pub mod Whole
+pub mod Together

@@ -24,11 +24,12 @@ use Rattle.replay_model.specs.Holders.{row, held, nobody}
 use Rattle.replay_model.specs.Items.{Item}
 use Rattle.replay_model.proofs.Driving.{mapped}
 use Rattle.solo_recording.proofs.BoardClock.{touch_on}
-use Rattle.crew_recording.specs.Recording.{Recording, Records, first_recording, stream_in, log_of_recording}
+use Rattle.replay_model.specs.Flat.{Flat}
+use Rattle.crew_recording.specs.Recording.{Recording, IsSteady, Records, first_recording, stream_in, log_of_recording}
 use Rattle.crew_recording.specs.Allowed.{IsTimed, actor, AreAllowed}
 use Rattle.crew_recording.specs.Laws.{IsBoard, RunsAreOrderly}
 use Rattle.crew_recording.proofs.Streams.{index_there}
-use Rattle.crew_recording.proofs.Steady.{within, bound_to, chosen, unless, up_by_one, board_steady, replicate_size, no_place, first_tidy}
+use Rattle.crew_recording.proofs.Steady.{within, bound_to, chosen, unless, up_by_one, board_steady, replicate_size, no_stream, no_place}
 use Rattle.crew_recording.proofs.Single.{IsTidyStream, no_stream_yet}
 use Rattle.crew_recording.proofs.Numbering.{At, many, IsNumbered}
 use Rattle.crew_recording.proofs.Fitting.{FitsAt}
@@ -172,11 +173,11 @@ nobody_holds zero n page h = refl
 nobody_holds (suc pages) n zero h = none_of n h
 nobody_holds (suc pages) n (suc page) h = nobody_holds pages n page h
 
-module _ (pages limit harts : ℕ) (first : FlatState) (on : IsBoard harts first) (unmoved : (h : ℕ) → board.count first h ≡ 0) where
-  pub first_ordered : IsOrdered board harts (IsBoard harts) (board_steady harts) (board_timed harts) pages limit (first_recording pages harts first)
+module _ {S V : Type 0} (flat : Flat S V) (harts : ℕ) (Good : S → Type 0) (steady : IsSteady flat harts Good) (timed : IsTimed flat Good) (pages limit : ℕ) (first : S) (good : Good first) (unmoved : (h : ℕ) → flat.count first h ≡ 0) where
+  pub first_ordered : IsOrdered flat harts Good steady timed pages limit (first_recording pages harts first)
   first_ordered = record {
-    tidy = first_tidy pages harts first on;
-    each = λ h l. subst (λ s. IsTidyStream limit s (board.count first h)) (sym (empty_stream harts h)) (subst (IsTidyStream limit []) (sym (unmoved h)) (no_stream_yet limit));
+    tidy = record { good = good; streams = replicate_size harts []; places = replicate_size harts 0; place = λ h l. no_place harts h ∙ sym (ap (λ (xs : List Entry). length xs) (no_stream harts h l)) };
+    each = λ h l. subst (λ s. IsTidyStream limit s (flat.count first h)) (sym (empty_stream harts h)) (subst (IsTidyStream limit []) (sym (unmoved h)) (no_stream_yet limit));
     numbers = λ page l. subst (λ n. IsNumbered (number_on page) n (replicate harts [])) (sym (no_place pages page)) (none_numbered (number_on page) harts);
     numbers_size = replicate_size pages 0;
     in_pages = λ g i e p at is. absurd (no_entry harts g i e at);
@@ -185,32 +186,33 @@ module _ (pages limit harts : ℕ) (first : FlatState) (on : IsBoard harts first
     rise = λ g i h j k l s t e f at_e at_f oe of less se sf. absurd (no_entry harts g i e at_e);
   }
 
-  pub first_fits : FitsAt board harts pages (first_recording pages harts first).at
+  pub first_fits : FitsAt flat harts pages (first_recording pages harts first).at
   first_fits = record {
     numbers_size = replicate_size pages 0;
     holders_size = replicate_size pages (replicate harts None);
     rows = λ page l. ap (λ (xs : List (Option Mode)). length xs) (row_of_nobody pages harts page l) ∙ replicate_size harts None;
   }
 
-  pub orderly : (image : List ℕ) (cause : Cause) (items : List (ℕ × Item)) (r : Recording FlatState) (is : Records board (first_recording pages harts first) items r)
-      → AreAllowed board pages limit (first_recording pages harts first) r items is → IsOrderly (log_of_recording board pages limit image cause r)
+  pub orderly : (image : List ℕ) (cause : Cause) (items : List (ℕ × Item)) (r : Recording S) (is : Records flat (first_recording pages harts first) items r)
+      → AreAllowed flat pages limit (first_recording pages harts first) r items is → IsOrderly (log_of_recording flat pages limit image cause r)
   orderly image cause items r is allowed =
       let begin = first_recording pages harts first in
-      let last = ordered_all board harts (IsBoard harts) (board_steady harts) (board_timed harts) pages limit begin r items is allowed first_ordered in
-      let follow = λ (page h : ℕ). nobody_holds pages harts page h ∙ sym (ap (rules.held (log_of_recording board pages limit image cause r) page h) (no_place pages page)) in
+      let last = ordered_all flat harts Good steady timed pages limit begin r items is allowed first_ordered in
+      let follow = λ (page h : ℕ). nobody_holds pages harts page h ∙ sym (ap (rules.held (log_of_recording flat pages limit image cause r) page h) (no_place pages page)) in
       let empty = λ (g : ℕ). ap (λ (xs : List Entry). length xs) (empty_stream harts g) in
       record {
-        counts_rise_to_the_end = keeps_o1 board harts (IsBoard harts) (board_steady harts) (board_timed harts) pages limit image cause r last;
-        kinds_in_order_at_a_count = keeps_o2 board harts (IsBoard harts) (board_steady harts) (board_timed harts) pages limit image cause r last;
-        polls_where_due = keeps_o3 board harts (IsBoard harts) (board_steady harts) (board_timed harts) pages limit image cause r last;
-        touches_go_on = keeps_o4 board harts (IsBoard harts) (board_steady harts) (board_timed harts) pages limit image cause r last;
-        pages_are_numbered = keeps_o5 board harts (IsBoard harts) (board_steady harts) (board_timed harts) pages limit image cause r last;
-        holders_are_crew = keeps_o6 board harts (IsBoard harts) (board_steady harts) (board_timed harts) pages limit image cause r last begin items is allowed first_ordered first_fits follow empty;
-        gains_name_their_waits = keeps_o7 board harts (IsBoard harts) (board_steady harts) (board_timed harts) pages limit image cause r last begin items is allowed first_ordered first_fits follow empty;
-        ordinals_and_times_rise = keeps_o8 board harts (IsBoard harts) (board_steady harts) (board_timed harts) pages limit image cause r last;
-        least_order_takes_all = taken_whole board harts (IsBoard harts) (board_steady harts) (board_timed harts) pages limit image cause r last begin items is allowed first_ordered
-            (ap (λ n. record { places = replicate n 0; numbers = replicate pages 0; ordinal = 0 }) (sym (many_streams board harts (IsBoard harts) (board_steady harts) (board_timed harts) pages limit image cause r last)));
+        counts_rise_to_the_end = keeps_o1 flat harts Good steady timed pages limit image cause r last;
+        kinds_in_order_at_a_count = keeps_o2 flat harts Good steady timed pages limit image cause r last;
+        polls_where_due = keeps_o3 flat harts Good steady timed pages limit image cause r last;
+        touches_go_on = keeps_o4 flat harts Good steady timed pages limit image cause r last;
+        pages_are_numbered = keeps_o5 flat harts Good steady timed pages limit image cause r last;
+        holders_are_crew = keeps_o6 flat harts Good steady timed pages limit image cause r last begin items is allowed first_ordered first_fits follow empty;
+        gains_name_their_waits = keeps_o7 flat harts Good steady timed pages limit image cause r last begin items is allowed first_ordered first_fits follow empty;
+        ordinals_and_times_rise = keeps_o8 flat harts Good steady timed pages limit image cause r last;
+        least_order_takes_all = taken_whole flat harts Good steady timed pages limit image cause r last begin items is allowed first_ordered
+            (ap (λ n. record { places = replicate n 0; numbers = replicate pages 0; ordinal = 0 }) (sym (many_streams flat harts Good steady timed pages limit image cause r last)));
       }
 
 pub runs_are_orderly : RunsAreOrderly
-runs_are_orderly pages limit harts image cause first items r is on unmoved allowed = orderly pages limit harts first on unmoved image cause items r is allowed
+runs_are_orderly pages limit harts image cause first items r is on unmoved allowed =
+    orderly board harts (IsBoard harts) (board_steady harts) (board_timed harts) pages limit first on unmoved image cause items r is allowed

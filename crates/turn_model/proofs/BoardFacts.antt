@@ -28,7 +28,8 @@ use Rattle.rv_hart.specs.declared.effect.Wrote.{Wrote}
 use Rattle.rv_hart.specs.declared.effect.Wrote.TheVariants as wrote
 use Rattle.rv_csr.specs.Registers.{csr_read, is_read_only}
 use Rattle.device_board.specs.Accesses.{touched}
-use Rattle.flat_machine.specs.State.{FlatState}
+use Rattle.elf_image.specs.Image.{Image}
+use Rattle.flat_machine.specs.State.{FlatState, flat_at_start}
 use Rattle.flat_machine.specs.Moves.{fetched, fetched_by, next_move, access_of, lost_by, writes_in}
 use Rattle.flat_machine.specs.Acts.{next, ran, accessed, touch_made, poll_made, lost}
 use Rattle.flat_machine.specs.declared.act.Act.{Act}
@@ -39,12 +40,14 @@ use Rattle.replay_model.specs.Journal.{order_of}
 use Rattle.replay_model.proofs.Driving.{mapped, orders_drive}
 use Rattle.crew_recording.specs.Laws as crew
 use Rattle.crew_recording.specs.Recording.{IsSteady}
+use Rattle.crew_recording.specs.Allowed.{IsTimed}
+use Rattle.crew_recording.proofs.Whole.{board_timed}
 use Rattle.crew_recording.proofs.Streams.{set_here, set_there}
-use Rattle.crew_recording.proofs.Steady.{map_size, replicate_size, within, bound_to, chosen, unless, leaves, board_steady}
+use Rattle.crew_recording.proofs.Steady.{map_size, replicate_size, no_place, within, bound_to, chosen, unless, leaves, board_steady}
 use Rattle.turn_model.specs.Machine.{board_machine}
 use Rattle.turn_model.specs.Faithful.{IsFaithful, AllBelow}
-use Rattle.turn_model.specs.Laws.{IsBoard, JournalsAreFull, JournalsDrive, StartsAreBoards}
-use Rattle.turn_model.proofs.Listing.{recorded_full}
+use Rattle.turn_model.specs.Laws.{IsBoard, RecordingsAreRight}
+use Rattle.turn_model.proofs.Listing.{recorded}
 
 -- the page of an address in memory is there
 page_there : (pages at : ℕ) → in_memory pages at ≡ true → page_at unit at < pages
@@ -238,29 +241,48 @@ board_steadier harts pages = record {
     plain : (s : FlatState) → IsBoard harts pages s → crew.IsBoard harts s
     plain s on = record { harts_size = on.harts_size; counts_size = on.counts_size }
 
+board_timelier : (harts pages : ℕ) → IsTimed board (IsBoard harts pages)
+board_timelier harts pages = record {
+  touch_moves = λ s t h input on is. (board_timed harts).touch_moves s t h input (plain s on) is;
+  poll_stays = λ s t h time on is. (board_timed harts).poll_stays s t h time (plain s on) is;
+  lose_stays = λ s t h on is. (board_timed harts).lose_stays s t h (plain s on) is;
+  others = λ s t act g on is n. (board_timed harts).others s t act g (plain s on) is n;
+  later = λ s t act on is. (board_timed harts).later s t act (plain s on) is;
+  touch_time = λ s t h time on is. (board_timed harts).touch_time s t h time (plain s on) is;
+  poll_time = λ s t h time on is. (board_timed harts).poll_time s t h time (plain s on) is;
+}
+  where
+    plain : (s : FlatState) → IsBoard harts pages s → crew.IsBoard harts s
+    plain s on = record { harts_size = on.harts_size; counts_size = on.counts_size }
+
 pub board_faithful : (harts pages : ℕ) → IsFaithful board harts pages (IsBoard harts pages)
 board_faithful harts pages = record {
   steady = board_steadier harts pages;
+  timed = board_timelier harts pages;
   inside = λ s h on. need_of_hart pages s.memory (slice_get s.harts h) (λ x e. on.pages_are h x e);
   touches = touch_tells;
   polls = poll_tells;
 }
 
-pub journals_are_full : JournalsAreFull
-journals_are_full terms harts first outside list r on of is =
-    recorded_full board_machine terms harts (IsBoard harts terms.pages) (board_faithful harts terms.pages) first outside list r on of is
-
-pub journals_drive : JournalsDrive
-journals_drive terms harts first outside list r on of is =
-    let f = journals_are_full terms harts first outside list r on of is in
-    orders_drive r.log (start r.log first) f.0 (order_of r.journal) (f.2.0, f.2.1, f.2.2.leads) ∙ ap (λ t. Some t) f.1
-
 starts_with : (pages : ℕ) (f : ℕ → Hart) (ids : List ℕ) (h : ℕ) (x : Hart) → ((id : ℕ) → (f id).pages ≡ pages) → slice_get (map f ids) h ≡ Some x → x.pages ≡ pages
 starts_with pages f ids h x all e = let m = map_get f ids h x e in ap (λ (z : Hart). z.pages) (sym m.2) ∙ all m.0
 
-pub starts_are_boards : StartsAreBoards
-starts_are_boards image harts = record {
+start_is_board : (image : Image) (harts : ℕ) → IsBoard harts image.pages (flat_at_start image harts)
+start_is_board image harts = record {
   harts_size = map_size _ (range_with_len 0 harts) ∙ length-range_with_len 0 harts;
   counts_size = replicate_size harts 0;
   pages_are = λ h x e. starts_with image.pages (λ id. hart_at_start id harts image.pages image.entry) (range_with_len 0 harts) h x (λ id. refl) e;
 }
+
+pub recordings_are_right : RecordingsAreRight
+recordings_are_right terms image harts outside list r pages of is =
+    let first = flat_at_start image harts in
+    let on : IsBoard harts terms.pages first = subst (λ p. IsBoard harts p first) (sym pages) (start_is_board image harts) in
+    let both = recorded board_machine terms harts (IsBoard harts terms.pages) (board_faithful harts terms.pages) first outside on (no_place harts) list r of is in
+    record {
+      orderly = both.0;
+      end = both.1.0;
+      ended = both.1.1;
+      obeyed = both.1.2;
+      acts = orders_drive r.log (start r.log first) both.1.0 (order_of r.journal) (both.1.2.0, both.1.2.1, both.1.2.2.leads) ∙ ap (λ t. Some t) both.1.1;
+    }

@@ -1,5 +1,5 @@
--- Turns, and lists of them, make items one after another, and the journal counts these.
-use Rattle.std.proofs.Common.{◌≡◌, ℕ, zero, suc, ◌<◌, ◌==◌, not, Bool, true, false, List, [], ◌∷◌, ◌++◌, length, map, replicate, Option, Some, None, slice_get, unwrap_or, refl, sym, ap, ap₂, ◌∙◌, subst, arith, if◌then◌else◌, append-nil, append_assoc}
+-- Turns make items that are allowed, one after another, and the journal counts these.
+use Rattle.std.proofs.Common.{◌≡◌, ◌≢◌, ◌⊎◌, inl, inr, ℕ, zero, suc, ◌+◌, ◌<◌, ◌≤◌, ◌==◌, not, Bool, true, false, List, [], ◌∷◌, ◌++◌, length, map, replicate, Option, Some, None, slice_get, slice_set, unwrap_or, refl, sym, ap, ap₂, ◌∙◌, subst, arith, if◌then◌else◌, append-nil, append_assoc}
 use Rattle.std.proofs.lemmas.Option.{none-some, same_Some}
 use Rattle.std.proofs.lemmas.Grind.{flat_map-append}
 use Rattle.std.proofs.lemmas.List.{length-append, map-append}
@@ -8,19 +8,25 @@ use Rattle.replay_model.specs.State.{Replay, want}
 use Rattle.replay_model.specs.Items.{Item, Move, Verdict, HasEnded, Holds, CanGo, HasDiverged, verdict_on, made, goes}
 use Rattle.replay_model.specs.Journal.{order_of}
 use Rattle.replay_model.proofs.Driving.{went}
-use Rattle.crew_recording.specs.Recording.{Recording, Records}
-use Rattle.crew_recording.proofs.Obeying.{tidy_all}
+use Rattle.std.proofs.lemmas.Bool.Decides.{eqb_tells}
+use Rattle.crew_recording.specs.Recording.{Recording, IsRecorded, stream_in}
+use Rattle.crew_recording.specs.Allowed.{IsPolled}
+use Rattle.crew_recording.proofs.Streams.{set_here, set_there, set_size}
+use Rattle.crew_recording.proofs.Going.{moves}
 use Rattle.crew_recording.proofs.Steady.{replicate_size, bound_to}
+use Rattle.crew_recording.proofs.Fitting.{fits_all}
+use Rattle.crew_recording.proofs.Ordered.{IsOrdered, ordered_item}
+use Rattle.crew_recording.proofs.Behind.{ordered_all}
+use Rattle.crew_recording.proofs.Together.{Made, made_after, SameOf, others_same}
 use Rattle.turn_model.specs.Machine.{Machine}
-use Rattle.turn_model.specs.Board.{Board, Terms}
+use Rattle.turn_model.specs.Board.{Board, Order, Go, Hold, Rest, Terms, last_order}
 use Rattle.turn_model.specs.Entering.{Way, On, Ends, Nowhere}
 use Rattle.turn_model.specs.Entering as ways
 use Rattle.turn_model.specs.Steps.{runs, commits, passes, passes_favour, with_want, steps, rests_where_closed, polls, yields, rests_at_limit, gains, touches, goes_on}
 use Rattle.turn_model.specs.Turn.{turn, ended_by, items_made, with_row}
 use Rattle.turn_model.specs.Faithful.{IsFaithful}
-use Rattle.crew_recording.proofs.Fitting.{fits_all, after}
-use Rattle.turn_model.proofs.Ways.{recording_of, by_one, IsSound, aside, further}
-use Rattle.turn_model.proofs.Making.{Any, To, rests_where_closed_to, polls_to, yields_come, rests_at_limit_to, gains_to, touches_to}
+use Rattle.turn_model.proofs.Ways.{recording_of, by_one, IsSound, OrderIs, further}
+use Rattle.turn_model.proofs.Making.{Any, Polled, Below, To, rests_where_closed_to, polls_to, yields_come, rests_at_limit_to, below_limit, gains_to, touches_to, goes_on_to}
 use Rattle.replay_model.proofs.Driving.{mapped}
 
 -- an order with one row more
@@ -36,30 +42,50 @@ of_one h (item ∷ items) = ap (λ zs. h ∷ zs) (of_one h items)
 
 module _ {S V : Type 0} (machine : Machine S V) (terms : Terms) (many pages : ℕ) (Good : S → Type 0) (faithful : IsFaithful machine.flat many pages Good) where
   abbrev pub Sound : Board S → Type 0
-  Sound b = IsSound machine.flat many pages Good faithful b
+  Sound b = IsSound machine.flat many pages terms.limit Good faithful b
+
+  abbrev pub Promised : ℕ → Board S → Order → Type 0
+  Promised h b order = OrderIs machine.flat many pages terms.limit Good faithful h b order
+
+  -- each hart finds what its last order promises
+  abbrev pub Orders : Board S → Type 0
+  Orders b = (g : ℕ) → g < many → (order : Order) → last_order b g ≡ Some order → Promised g b order
+
+  -- a hart may make so many moves
+  abbrev pub CanMove : ℕ → ℕ → Recording S → Type 0
+  CanMove h n r = (i : ℕ) → i < n → (machine.flat.count r.at.flat h + i < terms.limit) × IsPolled (stream_in r.streams h) (machine.flat.count r.at.flat h + i)
+
+  abbrev pub MadeBy : Recording S → List (ℕ × Item) → Recording S → Type 0
+  MadeBy r items s = Made machine.flat pages terms.limit r items s
 
   -- items of the harts lead from one board to another, and its journal counts them
   pub record Goes (b c : Board S) : Type 0 where
     pub items : List (ℕ × Item)
-    pub records : Records machine.flat (recording_of b) items (recording_of c)
+    pub made : MadeBy (recording_of b) items (recording_of c)
     pub order : order_of c.journal ≡ order_of b.journal ++ map (λ (x : ℕ × Item). x.0) items
+    pub orders_size : length c.orders ≡ length b.orders
 
-  pub stays : (b c : Board S) → recording_of b ≡ recording_of c → c.journal ≡ b.journal → Goes b c
-  stays b c same journal = record { items = []; records = same; order = ap order_of journal ∙ sym (append-nil (order_of b.journal)) }
+  pub stays : (b c : Board S) → recording_of b ≡ recording_of c → c.journal ≡ b.journal → c.orders ≡ b.orders → Goes b c
+  stays b c same journal orders = record { items = []; made = (same, tt); order = ap order_of journal ∙ sym (append-nil (order_of b.journal)); orders_size = ap (λ (xs : List (Option Order)). length xs) orders }
 
   pub then_goes : (b c d : Board S) → Goes b c → Goes c d → Goes b d
   then_goes b c d x y = record {
     items = x.items ++ y.items;
-    records = after machine.flat many pages (recording_of b) (recording_of c) (recording_of d) x.items y.items x.records y.records;
+    made = made_after machine.flat pages terms.limit (recording_of b) (recording_of c) (recording_of d) x.items y.items x.made y.made;
     order = y.order ∙ ap (λ zs. zs ++ map (λ (z : ℕ × Item). z.0) y.items) x.order ∙ append_assoc (order_of b.journal) (map (λ (z : ℕ × Item). z.0) x.items) (map (λ (z : ℕ × Item). z.0) y.items)
         ∙ ap (λ zs. order_of b.journal ++ zs) (sym (map-append (λ (z : ℕ × Item). z.0) x.items y.items));
+    orders_size = y.orders_size ∙ x.orders_size;
+  }
+
+  sound_made : (b c : Board S) (items : List (ℕ × Item)) → Sound b → MadeBy (recording_of b) items (recording_of c) → length c.orders ≡ length b.orders → Sound c
+  sound_made b c items sound made size = record {
+    ordered = ordered_all machine.flat many Good faithful.steady faithful.timed pages terms.limit (recording_of b) (recording_of c) items made.0 made.1 sound.ordered;
+    fits = fits_all machine.flat many pages (recording_of b) (recording_of c) items made.0 sound.fits;
+    orders_size = size ∙ sound.orders_size;
   }
 
   pub sound_goes : (b c : Board S) → Sound b → Goes b c → Sound c
-  sound_goes b c sound goes = record {
-    tidy = tidy_all machine.flat many Good faithful.steady (recording_of b) (recording_of c) goes.items goes.records sound.tidy;
-    fits = fits_all machine.flat many pages (recording_of b) (recording_of c) goes.items goes.records sound.fits;
-  }
+  sound_goes b c sound goes = sound_made b c goes.items sound goes.made goes.orders_size
 
   can_and_does : (s : Replay S) (h : ℕ) (item : Item) (v : Verdict) (m : Replay S × Option V) → goes machine.flat s h item v ≡ Some m → (v ≡ CanGo) × (made machine.flat s h item ≡ Some m.0)
   can_and_does s h item CanGo m e = (refl, went machine.flat s m.0 h item CanGo m.1 e)
@@ -67,71 +93,108 @@ module _ {S V : Type 0} (machine : Machine S V) (terms : Terms) (many pages : �
   can_and_does s h item Holds m e = absurd (none-some _ e)
   can_and_does s h item (HasDiverged rule) m e = absurd (none-some _ e)
 
-  runs_record : (h n : ℕ) (r : Recording S) (s : Replay S) → h < length r.streams → runs machine terms h n r.at ≡ Some s → Records machine.flat r (by_one h (replicate n Move)) (record { at = s; streams = r.streams })
-  runs_record h zero r s l e = ap (λ (x : Replay S). record r { at = x }) (same_Some _ _ e)
-  runs_record h (suc n) r s l e =
+  runs_made : (h n : ℕ) (r : Recording S) (s : Replay S) → IsOrdered machine.flat many Good faithful.steady faithful.timed pages terms.limit r → h < length r.streams → CanMove h n r → runs machine terms h n r.at ≡ Some s
+      → MadeBy r (by_one h (replicate n Move)) (record { at = s; streams = r.streams })
+  runs_made h zero r s ordered l can e = (ap (λ (x : Replay S). record r { at = x }) (same_Some _ _ e), tt)
+  runs_made h (suc n) r s ordered l can e =
       let m = bound_to (λ (m : Replay S × Option V). runs machine terms h n m.0) (goes machine.flat r.at h Move (verdict_on machine.flat r.at h Move)) s e in
       let c = can_and_does r.at h Move (verdict_on machine.flat r.at h Move) m.0 m.1 in
-      (record { at = m.0.0; streams = r.streams }, record { hart = l; stands = tt; goes = c.0; made = c.1; streams = refl }, runs_record h n (record { at = m.0.0; streams = r.streams }) s l m.2)
+      let next : Recording S = record { at = m.0.0; streams = r.streams } in
+      let one : IsRecorded machine.flat r h Move next = record { hart = l; stands = tt; goes = c.0; made = c.1; streams = refl } in
+      let now : machine.flat.count r.at.flat h + 0 ≡ machine.flat.count r.at.flat h = omega arith in
+      let allowed = subst (λ k. (k < terms.limit) × IsPolled (stream_in r.streams h) k) now (can 0 (omega arith)) in
+      let up = moves machine.flat many Good faithful.steady r.at m.0.0 h ordered.tidy.good c.1 in
+      let rest = runs_made h n next s (ordered_item machine.flat many Good faithful.steady faithful.timed pages terms.limit r next h Move ordered one allowed) l
+      (λ i less. let k : machine.flat.count r.at.flat h + (i + 1) ≡ machine.flat.count m.0.0.flat h + i = omega (arith, up) in subst (λ z. (z < terms.limit) × IsPolled (stream_in r.streams h) z) k (can (i + 1) (omega (arith, less)))) m.2 in
+      ((next, one, rest.0), (allowed, rest.1))
+
+  order_kept : (g : ℕ) (b e : Board S) (order : Order) → SameOf machine.flat many Good faithful.steady faithful.timed pages terms.limit g (recording_of b) (recording_of e) → Promised g b order → Promised g e order
+  order_kept g b e (Go until) same f = λ n from to. subst (λ s. (n < terms.limit) × IsPolled s n) (sym same.stream) (f n (let z = same.count in omega (arith, z, from)) to)
+  order_kept g b e (Hold page other) same f = tt
+  order_kept g b e Rest same f = tt
 
   module _ (h : ℕ) (inside : h < many) where
-    steps_come : (b : Board S) → Sound b → To machine terms many pages Good faithful h inside (Any machine terms many pages Good faithful h inside) b (ways.goes (steps machine terms h) (On b))
+    abbrev T : (Board S → Type 0) → Board S → Way S → Type 0
+    T P b way = To machine terms many pages Good faithful h inside P b way
+
+    abbrev A : Board S → Type 0
+    A = Any machine terms many pages Good faithful h inside
+
+    abbrev PolledB : Board S → Type 0
+    PolledB = Polled machine terms many pages Good faithful h inside
+
+    abbrev BelowB : Board S → Type 0
+    BelowB = Below machine terms many pages Good faithful h inside
+
+    steps_come : (b : Board S) → Sound b → T A b (ways.goes (steps machine terms h) (On b))
     steps_come b sound =
         let flat = machine.flat in
-        let A = Any machine terms many pages Good faithful h inside in
-        further flat many pages Good faithful h A A b (polls machine terms h ∷ yields machine terms h ∷ rests_at_limit machine terms h ∷ gains machine terms h ∷ touches machine terms h ∷ rests_at_limit machine terms h ∷ goes_on machine terms h ∷ []) (rests_where_closed machine terms b) sound
+        further flat many pages terms.limit Good faithful h A A b (polls machine terms h ∷ yields machine terms h ∷ rests_at_limit machine terms h ∷ gains machine terms h ∷ touches machine terms h ∷ rests_at_limit machine terms h ∷ goes_on machine terms h ∷ []) (rests_where_closed machine terms b) sound
         (rests_where_closed_to machine terms many pages Good faithful h inside b) (λ b₁ s₁ _.
-        further flat many pages Good faithful h A A b₁ (yields machine terms h ∷ rests_at_limit machine terms h ∷ gains machine terms h ∷ touches machine terms h ∷ rests_at_limit machine terms h ∷ goes_on machine terms h ∷ []) (polls machine terms h b₁) s₁
-        (polls_to machine terms many pages Good faithful h inside b₁ s₁) (λ b₂ s₂ _.
-        further flat many pages Good faithful h A A b₂ (rests_at_limit machine terms h ∷ gains machine terms h ∷ touches machine terms h ∷ rests_at_limit machine terms h ∷ goes_on machine terms h ∷ []) (yields machine terms h b₂) s₂
-        (yields_come machine terms many pages Good faithful h inside b₂ s₂) (λ b₃ s₃ _.
-        further flat many pages Good faithful h A A b₃ (gains machine terms h ∷ touches machine terms h ∷ rests_at_limit machine terms h ∷ goes_on machine terms h ∷ []) (rests_at_limit machine terms h b₃) s₃
-        (rests_at_limit_to machine terms many pages Good faithful h inside A b₃ tt) (λ b₄ s₄ _.
-        further flat many pages Good faithful h (λ c. want machine.flat c.at h ≡ None) A b₄ (touches machine terms h ∷ rests_at_limit machine terms h ∷ goes_on machine terms h ∷ []) (gains machine terms h b₄) s₄
-        (gains_to machine terms many pages Good faithful h inside b₄ s₄) (λ b₅ s₅ none.
-        further flat many pages Good faithful h A A b₅ (rests_at_limit machine terms h ∷ goes_on machine terms h ∷ []) (touches machine terms h b₅) s₅
-        (touches_to machine terms many pages Good faithful h inside b₅ s₅ none) (λ b₆ s₆ _.
-        further flat many pages Good faithful h A A b₆ (goes_on machine terms h ∷ []) (rests_at_limit machine terms h b₆) s₆
-        (rests_at_limit_to machine terms many pages Good faithful h inside A b₆ tt) (λ b₇ s₇ _. aside flat many pages Good faithful h b₇ b₇ refl refl)))))))
+        further flat many pages terms.limit Good faithful h PolledB A b₁ (yields machine terms h ∷ rests_at_limit machine terms h ∷ gains machine terms h ∷ touches machine terms h ∷ rests_at_limit machine terms h ∷ goes_on machine terms h ∷ []) (polls machine terms h b₁) s₁
+        (polls_to machine terms many pages Good faithful h inside b₁ s₁) (λ b₂ s₂ p₂.
+        further flat many pages terms.limit Good faithful h PolledB A b₂ (rests_at_limit machine terms h ∷ gains machine terms h ∷ touches machine terms h ∷ rests_at_limit machine terms h ∷ goes_on machine terms h ∷ []) (yields machine terms h b₂) s₂
+        (yields_come machine terms many pages Good faithful h inside b₂ s₂ p₂) (λ b₃ s₃ p₃.
+        further flat many pages terms.limit Good faithful h BelowB A b₃ (gains machine terms h ∷ touches machine terms h ∷ rests_at_limit machine terms h ∷ goes_on machine terms h ∷ []) (rests_at_limit machine terms h b₃) s₃
+        (rests_at_limit_to machine terms many pages Good faithful h inside BelowB b₃ (below_limit machine terms many pages Good faithful h inside b₃ s₃ p₃)) (λ b₄ s₄ p₄.
+        further flat many pages terms.limit Good faithful h (λ c. (want machine.flat c.at h ≡ None) × BelowB c) A b₄ (touches machine terms h ∷ rests_at_limit machine terms h ∷ goes_on machine terms h ∷ []) (gains machine terms h b₄) s₄
+        (gains_to machine terms many pages Good faithful h inside b₄ s₄ p₄) (λ b₅ s₅ p₅.
+        further flat many pages terms.limit Good faithful h A A b₅ (rests_at_limit machine terms h ∷ goes_on machine terms h ∷ []) (touches machine terms h b₅) s₅
+        (touches_to machine terms many pages Good faithful h inside b₅ s₅ p₅) (λ b₆ s₆ _.
+        further flat many pages terms.limit Good faithful h A A b₆ (goes_on machine terms h ∷ []) (rests_at_limit machine terms h b₆) s₆
+        (rests_at_limit_to machine terms many pages Good faithful h inside A b₆ (λ _. tt)) (λ b₇ s₇ _. goes_on_to machine terms many pages Good faithful h inside b₇)))))))
 
-    -- what is done beside the moves leaves what was recorded, and the journal
-    passes_leaves : (n : ℕ) (c : Board S) (x : Bool) → (recording_of (if x then passes_favour h c else c) ≡ recording_of c) × ((if x then passes_favour h c else c).journal ≡ c.journal)
-    passes_leaves n c true = (refl, refl)
-    passes_leaves n c false = (refl, refl)
+    -- what is done beside the moves leaves what was recorded, the journal and the orders
+    passes_leaves : (n : ℕ) (c : Board S) (x : Bool) → (recording_of (if x then passes_favour h c else c) ≡ recording_of c) × ((if x then passes_favour h c else c).journal ≡ c.journal) × ((if x then passes_favour h c else c).orders ≡ c.orders)
+    passes_leaves n c true = (refl, refl, refl)
+    passes_leaves n c false = (refl, refl, refl)
 
-    ended_goes : (n : ℕ) (b c d : Board S) (s : Replay S) (way : Way S) → Sound b → runs machine terms h n b.at ≡ Some s → recording_of c ≡ record { at = s; streams = b.streams } → c.journal ≡ b.journal
-        → To machine terms many pages Good faithful h inside (Any machine terms many pages Good faithful h inside) c way → ended_by h n b way ≡ Some d → Goes b d
-    ended_goes n b c d s (On e) sound ran same journal comes is = absurd (none-some _ is)
-    ended_goes n b c d s Nowhere sound ran same journal comes is = absurd (none-some _ is)
-    ended_goes n b c d s (Ends order e) sound ran same journal comes is =
+    ended_goes : (n : ℕ) (b c d : Board S) (s : Replay S) (way : Way S) → Sound b → Orders b → CanMove h n (recording_of b) → runs machine terms h n b.at ≡ Some s → recording_of c ≡ record { at = s; streams = b.streams } → c.journal ≡ b.journal → c.orders ≡ b.orders
+        → T A c way → ended_by h n b way ≡ Some d → Goes b d × Orders d
+    ended_goes n b c d s (On e) sound orders can ran same journal kept comes is = absurd (none-some _ is)
+    ended_goes n b c d s Nowhere sound orders can ran same journal kept comes is = absurd (none-some _ is)
+    ended_goes n b c d s (Ends order e) sound orders can ran same journal kept comes is =
         let m = items_made h n b e in
-        let items = replicate n Move ++ comes.items in
-        let l : h < length b.streams = (let z = sound.tidy.streams in omega (arith, z, inside)) in
+        let items = replicate n Move ++ comes.0.items in
+        let l : h < length b.streams = (let z = sound.ordered.tidy.streams in omega (arith, z, inside)) in
         let size : m ≡ length items = (
-        let z = comes.size in let k = ap (λ (r : Recording S). length (unwrap_or (slice_get r.streams h) [])) same in
-        let a = length-append (replicate n Move) comes.items in let r = replicate_size n Move in omega (arith, z, k, a, r)) in
-        let moved : Records machine.flat (recording_of b) (by_one h (replicate n Move)) (recording_of c) = subst (Records machine.flat (recording_of b) (by_one h (replicate n Move))) (sym same) (runs_record h n (recording_of b) s l ran) in
-        subst (Goes b) (same_Some _ _ is) (record {
-          items = by_one h items;
-          records = subst (λ zs. Records machine.flat (recording_of b) zs (recording_of e)) (sym (map-append (λ (item : Item). (h, item)) (replicate n Move) comes.items))
-              (after machine.flat many pages (recording_of b) (recording_of c) (recording_of e) (by_one h (replicate n Move)) (by_one h comes.items) moved comes.records);
-          order = order_more h m e.journal ∙ ap₂ (λ j k. order_of j ++ replicate k h) (comes.journal ∙ journal) size ∙ ap (λ zs. order_of b.journal ++ zs) (sym (of_one h items));
-        })
+        let z = comes.0.size in let k = ap (λ (r : Recording S). length (unwrap_or (slice_get r.streams h) [])) same in
+        let a = length-append (replicate n Move) comes.0.items in let r = replicate_size n Move in omega (arith, z, k, a, r)) in
+        let moved : MadeBy (recording_of b) (by_one h (replicate n Move)) (recording_of c) = subst (MadeBy (recording_of b) (by_one h (replicate n Move))) (sym same) (runs_made h n (recording_of b) s sound.ordered l can ran) in
+        let all : MadeBy (recording_of b) (by_one h items) (recording_of e) =
+        subst (λ zs. MadeBy (recording_of b) zs (recording_of e)) (sym (map-append (λ (item : Item). (h, item)) (replicate n Move) comes.0.items))
+        (made_after machine.flat pages terms.limit (recording_of b) (recording_of c) (recording_of e) (by_one h (replicate n Move)) (by_one h comes.0.items) moved comes.0.made) in
+        let same_orders : e.orders ≡ b.orders = comes.0.orders ∙ kept in
+        let orders_long : length e.orders ≡ many = ap (λ (xs : List (Option Order)). length xs) same_orders ∙ sound.orders_size in
+        subst (λ (x : Board S). Goes b x × Orders x) (same_Some _ _ is) (
+          record {
+            items = by_one h items;
+            made = all;
+            order = order_more h m e.journal ∙ ap₂ (λ j k. order_of j ++ replicate k h) (comes.0.journal ∙ journal) size ∙ ap (λ zs. order_of b.journal ++ zs) (sym (of_one h items));
+            orders_size = set_size e.orders h (Some order) ∙ ap (λ (xs : List (Option Order)). length xs) same_orders;
+          },
+          λ g less other last. told g less other last items all same_orders orders_long (eqb_tells g h),
+        )
+      where
+        told : (g : ℕ) → g < many → (other : Order) → unwrap_or (slice_get (slice_set e.orders h (Some order)) g) None ≡ Some other → (items : List Item) → MadeBy (recording_of b) (by_one h items) (recording_of e) → e.orders ≡ b.orders → length e.orders ≡ many
+            → (((g == h) ≡ true) × (g ≡ h)) ⊎ (((g == h) ≡ false) × (g ≢ h)) → Promised g e other
+        told g less other last items all same_orders long (inl (t, is_h)) =
+            let here : unwrap_or (slice_get (slice_set e.orders h (Some order)) h) None ≡ Some order = ap (λ o. unwrap_or o None) (set_here e.orders h (Some order) (omega (arith, long, inside))) in
+            let one : order ≡ other = same_Some _ _ (sym here ∙ subst (λ k. unwrap_or (slice_get (slice_set e.orders h (Some order)) k) None ≡ Some other) is_h last) in
+            subst (λ k. Promised k e other) (sym is_h) (subst (Promised h e) one comes.1)
+        told g less other last items all same_orders long (inr (f, n)) =
+            let before : last_order b g ≡ Some other = ap (λ (xs : List (Option Order)). unwrap_or (slice_get xs g) None) (sym same_orders) ∙ sym (ap (λ o. unwrap_or o None) (set_there e.orders h g (Some order) n)) ∙ last in
+            order_kept g b e other (others_same machine.flat many Good faithful.steady faithful.timed pages terms.limit (recording_of b) (recording_of e) h g items n sound.ordered all) (orders g less other before)
 
-    pub turn_goes : (n : ℕ) (b d : Board S) → Sound b → turn machine terms h n b ≡ Some d → Goes b d
-    turn_goes n b d sound is =
+    pub turn_goes : (n : ℕ) (b d : Board S) → Sound b → Orders b → CanMove h n (recording_of b) → turn machine terms h n b ≡ Some d → Goes b d × Orders d
+    turn_goes n b d sound orders can is =
         let x = bound_to (λ c. ended_by h n b (ways.goes (steps machine terms h) (On c))) (commits machine terms h n b) d is in
         let y = mapped (λ (s : Replay S). with_want h None (passes machine terms h n (record b { at = s }))) (runs machine terms h n b.at) x.0 x.1 in
         let p = passes_leaves n (record b { at = y.0 }) _ in
         let same : recording_of x.0 ≡ record { at = y.0; streams = b.streams } = sym (ap (λ (z : Board S). recording_of z) y.2) ∙ p.0 in
         let journal : x.0.journal ≡ b.journal = sym (ap (λ (z : Board S). z.journal) y.2) ∙ p.1 in
-        ended_goes n b x.0 d y.0 (ways.goes (steps machine terms h) (On x.0)) sound y.1 same journal (steps_come x.0 (sound_at b x.0 n y.0 sound y.1 same)) x.2
-      where
-        sound_at : (b c : Board S) (n : ℕ) (s : Replay S) → Sound b → runs machine terms h n b.at ≡ Some s → recording_of c ≡ record { at = s; streams = b.streams } → Sound c
-        sound_at b c n s sound ran same =
-            let l : h < length b.streams = (let z = sound.tidy.streams in omega (arith, z, inside)) in
-            let records = subst (Records machine.flat (recording_of b) (by_one h (replicate n Move))) (sym same) (runs_record h n (recording_of b) s l ran) in
-            record {
-              tidy = tidy_all machine.flat many Good faithful.steady (recording_of b) (recording_of c) (by_one h (replicate n Move)) records sound.tidy;
-              fits = fits_all machine.flat many pages (recording_of b) (recording_of c) (by_one h (replicate n Move)) records sound.fits;
-            }
+        let kept : x.0.orders ≡ b.orders = sym (ap (λ (z : Board S). z.orders) y.2) ∙ p.2 in
+        let l : h < length b.streams = (let z = sound.ordered.tidy.streams in omega (arith, z, inside)) in
+        let moved = subst (MadeBy (recording_of b) (by_one h (replicate n Move))) (sym same) (runs_made h n (recording_of b) y.0 sound.ordered l can y.1) in
+        ended_goes n b x.0 d y.0 (ways.goes (steps machine terms h) (On x.0)) sound orders can y.1 same journal kept
+        (steps_come x.0 (sound_made b x.0 (by_one h (replicate n Move)) sound moved (ap (λ (xs : List (Option Order)). length xs) kept))) x.2

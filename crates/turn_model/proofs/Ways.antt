@@ -1,15 +1,17 @@
--- The steps of a turn make items, one after another.
-use Rattle.std.proofs.Common.{◌≡◌, ℕ, ◌+◌, List, [], ◌∷◌, ◌++◌, length, map, refl, sym, ap, ◌∙◌, subst, arith}
+-- The steps of a turn make items that are allowed, one after another.
+use Rattle.std.proofs.Common.{◌≡◌, ℕ, ◌+◌, ◌<◌, ◌≤◌, List, [], ◌∷◌, ◌++◌, length, map, Option, Some, None, refl, sym, ap, ◌∙◌, subst, arith}
 use Rattle.std.proofs.lemmas.List.{length-append, map-append}
 use Rattle.replay_model.specs.Flat.{Flat}
 use Rattle.replay_model.specs.Items.{Item}
 use Rattle.crew_recording.specs.Recording.{Recording, Records, stream_in}
-use Rattle.crew_recording.proofs.Going.{IsTidy}
-use Rattle.crew_recording.proofs.Obeying.{tidy_all}
-use Rattle.turn_model.specs.Board.{Board, Order, stream}
+use Rattle.crew_recording.specs.Allowed.{IsPolled}
+use Rattle.crew_recording.proofs.Fitting.{FitsAt, fits_all}
+use Rattle.crew_recording.proofs.Ordered.{IsOrdered}
+use Rattle.crew_recording.proofs.Behind.{ordered_all}
+use Rattle.crew_recording.proofs.Together.{Made, made_after}
+use Rattle.turn_model.specs.Board.{Board, Order, Go, Hold, Rest, stream}
 use Rattle.turn_model.specs.Entering.{Way, On, Ends, Nowhere, goes}
 use Rattle.turn_model.specs.Faithful.{IsFaithful}
-use Rattle.crew_recording.proofs.Fitting.{FitsAt, fits_all, after}
 
 abbrev pub recording_of : {S : Type 0} → Board S → Recording S
 recording_of b = record { at = b.at; streams = b.streams }
@@ -18,51 +20,62 @@ recording_of b = record { at = b.at; streams = b.streams }
 abbrev pub by_one : ℕ → List Item → List (ℕ × Item)
 by_one h items = map (λ item. (h, item)) items
 
-module _ {S V : Type 0} (flat : Flat S V) (harts pages : ℕ) (Good : S → Type 0) (faithful : IsFaithful flat harts pages Good) where
+module _ {S V : Type 0} (flat : Flat S V) (harts pages limit : ℕ) (Good : S → Type 0) (faithful : IsFaithful flat harts pages Good) where
   pub record IsSound (b : Board S) : Type 0 where
-    pub tidy : IsTidy flat harts Good faithful.steady (recording_of b)
+    pub ordered : IsOrdered flat harts Good faithful.steady faithful.timed pages limit (recording_of b)
     pub fits : FitsAt flat harts pages b.at
+    pub orders_size : length b.orders ≡ harts
 
   -- entries of a hart lead from one board to another
   pub record Went (h : ℕ) (b c : Board S) : Type 0 where
     pub items : List Item
-    pub records : Records flat (recording_of b) (by_one h items) (recording_of c)
+    pub made : Made flat pages limit (recording_of b) (by_one h items) (recording_of c)
     pub journal : c.journal ≡ b.journal
+    pub orders : c.orders ≡ b.orders
     pub size : length (stream c h) ≡ length (stream b h) + length items
+
+  -- a hart that is told to go finds, at each count up to there, that it is below the limit and any Poll that is due is made
+  abbrev pub OrderIs : ℕ → Board S → Order → Type 0
+  OrderIs h c (Go until) = (n : ℕ) → flat.count c.at.flat h ≤ n → n < until → (n < limit) × IsPolled (stream c h) n
+  OrderIs h c (Hold page g) = Unit {0}
+  OrderIs h c Rest = Unit {0}
 
   pub sound_after : (h : ℕ) (b c : Board S) → IsSound b → Went h b c → IsSound c
   sound_after h b c sound went = record {
-    tidy = tidy_all flat harts Good faithful.steady (recording_of b) (recording_of c) (by_one h went.items) went.records sound.tidy;
-    fits = fits_all flat harts pages (recording_of b) (recording_of c) (by_one h went.items) went.records sound.fits;
+    ordered = ordered_all flat harts Good faithful.steady faithful.timed pages limit (recording_of b) (recording_of c) (by_one h went.items) went.made.0 went.made.1 sound.ordered;
+    fits = fits_all flat harts pages (recording_of b) (recording_of c) (by_one h went.items) went.made.0 sound.fits;
+    orders_size = ap (λ (xs : List (Option Order)). length xs) went.orders ∙ sound.orders_size;
   }
 
   -- what is changed beside the replay state and the streams is no item
-  pub aside : (h : ℕ) (b c : Board S) → recording_of b ≡ recording_of c → c.journal ≡ b.journal → Went h b c
-  aside h b c same journal = record {
+  pub aside : (h : ℕ) (b c : Board S) → recording_of b ≡ recording_of c → c.journal ≡ b.journal → c.orders ≡ b.orders → Went h b c
+  aside h b c same journal orders = record {
     items = [];
-    records = same;
+    made = (same, tt);
     journal = journal;
+    orders = orders;
     size = (let e = ap (λ (r : Recording S). length (stream_in r.streams h)) same in omega (arith, e));
   }
 
   pub both : (h : ℕ) (b c d : Board S) → Went h b c → Went h c d → Went h b d
   both h b c d x y = record {
     items = x.items ++ y.items;
-    records = subst (λ items. Records flat (recording_of b) items (recording_of d)) (sym (map-append (λ item. (h, item)) x.items y.items))
-        (after flat harts pages (recording_of b) (recording_of c) (recording_of d) (by_one h x.items) (by_one h y.items) x.records y.records);
+    made = subst (λ items. Made flat pages limit (recording_of b) items (recording_of d)) (sym (map-append (λ item. (h, item)) x.items y.items))
+        (made_after flat pages limit (recording_of b) (recording_of c) (recording_of d) (by_one h x.items) (by_one h y.items) x.made y.made);
     journal = y.journal ∙ x.journal;
+    orders = y.orders ∙ x.orders;
     size = (let a = x.size in let e = y.size in let l = length-append x.items y.items in omega (arith, a, e, l));
   }
 
   -- where a way comes to, from a board: a board on which it goes on has this
   abbrev pub Comes : ℕ → (Board S → Type 0) → Board S → Way S → Type 0
   Comes h P b (On c) = Went h b c × P c
-  Comes h P b (Ends order c) = Went h b c
+  Comes h P b (Ends order c) = Went h b c × OrderIs h c order
   Comes h P b Nowhere = Unit {0}
 
-  shifts : (h : ℕ) (P : Board S → Type 0) (b c : Board S) (way : Way S) → Went h b c → Comes h P c way → Comes h P b way
+  pub shifts : (h : ℕ) (P : Board S → Type 0) (b c : Board S) (way : Way S) → Went h b c → Comes h P c way → Comes h P b way
   shifts h P b c (On d) w comes = (both h b c d w comes.0, comes.1)
-  shifts h P b c (Ends order d) w comes = both h b c d w comes
+  shifts h P b c (Ends order d) w comes = (both h b c d w comes.0, comes.1)
   shifts h P b c Nowhere w comes = tt
 
   ended : (order : Order) (c : Board S) (steps : List (Board S → Way S)) → goes steps (Ends order c) ≡ Ends order c

@@ -4,6 +4,7 @@ use Rattle.rv_hart.specs.State.{Hart}
 use Rattle.elf_image.specs.Image.{Image}
 use Rattle.flat_machine.specs.State.{FlatState, flat_at_start}
 use Rattle.flat_machine.specs.Runs.{run_from}
+use Rattle.order_rules.specs.Orderly.{IsOrderly}
 use Rattle.replay_model.specs.Board.{board}
 use Rattle.replay_model.specs.State.{Replay, start}
 use Rattle.replay_model.specs.Items.{IsFullOrder}
@@ -24,18 +25,17 @@ abbrev pub OfHarts : ℕ → List (ℕ × ℕ) → Type 0
 OfHarts harts [] = Unit {0}
 OfHarts harts (row ∷ list) = (row.0 < harts) × OfHarts harts list
 
--- the journal of a recording by any list obeys its log, leads to its end, and is full
-abbrev pub JournalsAreFull : Type 0
-JournalsAreFull = (terms : Terms) (harts : ℕ) (first : FlatState) (outside : Outside) (list : List (ℕ × ℕ)) (r : Recorded FlatState)
-    → IsBoard harts terms.pages first → OfHarts harts list → recorded_by_list board_machine terms list (board_at_start terms harts first outside) ≡ Some r
-    → (end : Replay FlatState) × (end.flat ≡ r.ended) × IsFullOrder board r.log (start r.log first) (order_of r.journal) end
+-- of a recording from a flat state: its log is orderly; its journal obeys it, leads to the end that is recorded, and is full; and
+-- the journal's acts drive the flat machine to that end
+pub record IsRight (first : FlatState) (r : Recorded FlatState) : Type 0 where
+  pub orderly : IsOrderly r.log
+  pub end : Replay FlatState
+  pub ended : end.flat ≡ r.ended
+  pub obeyed : IsFullOrder board r.log (start r.log first) (order_of r.journal) end
+  pub acts : run_from first (acts_of board r.log (start r.log first) (order_of r.journal)) ≡ Some r.ended
 
--- its acts drive the flat machine to that end
-abbrev pub JournalsDrive : Type 0
-JournalsDrive = (terms : Terms) (harts : ℕ) (first : FlatState) (outside : Outside) (list : List (ℕ × ℕ)) (r : Recorded FlatState)
-    → IsBoard harts terms.pages first → OfHarts harts list → recorded_by_list board_machine terms list (board_at_start terms harts first outside) ≡ Some r
-    → run_from first (acts_of board r.log (start r.log first) (order_of r.journal)) ≡ Some r.ended
-
--- the start state of an image is a board
-abbrev pub StartsAreBoards : Type 0
-StartsAreBoards = (image : Image) (harts : ℕ) → IsBoard harts image.pages (flat_at_start image harts)
+-- so is every recording of an image by a list of turns, whatever console and clock give
+abbrev pub RecordingsAreRight : Type 0
+RecordingsAreRight = (terms : Terms) (image : Image) (harts : ℕ) (outside : Outside) (list : List (ℕ × ℕ)) (r : Recorded FlatState)
+    → terms.pages ≡ image.pages → OfHarts harts list → recorded_by_list board_machine terms list (board_at_start terms harts (flat_at_start image harts) outside) ≡ Some r
+    → IsRight (flat_at_start image harts) r

@@ -22,12 +22,13 @@ module _ {S V : Type 0} (machine : Machine S V) (terms : Terms) where
   leg h zero s = 0
   leg h (suc most) s = option_map_or (λ m. suc (leg h most m.0)) (goes machine.flat s h Move (verdict_on machine.flat s h Move)) 0
 
+  abbrev pub leg_by : ℕ → Board S → Option Order → ℕ
+  leg_by h b (Some (Go until)) = leg h (until - count machine terms b h) b.at
+  leg_by h b order = 0
+
   -- how many moves a hart can make before its next turn, by its last order
   abbrev pub whole_leg : ℕ → Board S → ℕ
-  whole_leg h b = by (last_order b h) where
-    by : Option Order → ℕ
-    by (Some (Go until)) = leg h (until - count machine terms b h) b.at
-    by _ = 0
+  whole_leg h b = leg_by h b (last_order b h)
 
   -- for each row of a list a turn of the hart, with so many of these moves at most
   abbrev pub listed : List (ℕ × ℕ) → Board S → Option (Board S)
