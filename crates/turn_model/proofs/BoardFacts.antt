@@ -35,7 +35,6 @@ use Rattle.flat_machine.specs.Acts.{next, ran, accessed, touch_made, poll_made, 
 use Rattle.flat_machine.specs.declared.act.Act.{Act}
 use Rattle.flat_machine.specs.declared.act.Act.TheVariants.{Run, Touch, Poll, Lose}
 use Rattle.replay_model.specs.Board.{board, hart_access, next_access, unit}
-use Rattle.replay_model.specs.State.{start}
 use Rattle.replay_model.specs.Journal.{order_of}
 use Rattle.replay_model.proofs.Driving.{mapped, orders_drive}
 use Rattle.crew_recording.specs.Laws as crew
@@ -44,10 +43,16 @@ use Rattle.crew_recording.specs.Allowed.{IsTimed}
 use Rattle.crew_recording.proofs.Whole.{board_timed}
 use Rattle.crew_recording.proofs.Streams.{set_here, set_there}
 use Rattle.crew_recording.proofs.Steady.{map_size, replicate_size, no_place, within, bound_to, chosen, unless, leaves, board_steady}
+use Rattle.order_rules.specs.Orderly.{IsOrderly}
+use Rattle.replay_model.specs.State.{Replay, start}
+use Rattle.replay_model.specs.Items.{IsFullOrder}
+use Rattle.turn_model.specs.Board.{Terms}
+use Rattle.turn_model.specs.Lists.{Recorded}
 use Rattle.turn_model.specs.Machine.{board_machine}
 use Rattle.turn_model.specs.Faithful.{IsFaithful, AllBelow}
-use Rattle.turn_model.specs.Laws.{IsBoard, RecordingsAreRight}
+use Rattle.turn_model.specs.Laws.{IsBoard, IsRight, RecordingsAreRight, RoundsAreRight}
 use Rattle.turn_model.proofs.Listing.{recorded}
+use Rattle.turn_model.proofs.Rounding.{recorded_in_rounds}
 
 -- the page of an address in memory is there
 page_there : (pages at : ℕ) → in_memory pages at ≡ true → page_at unit at < pages
@@ -274,15 +279,26 @@ start_is_board image harts = record {
   pages_are = λ h x e. starts_with image.pages (λ id. hart_at_start id harts image.pages image.entry) (range_with_len 0 harts) h x (λ id. refl) e;
 }
 
+-- what is right of a recording
+all_right : (terms : Terms) (image : Image) (harts : ℕ) (r : Recorded FlatState)
+    → IsOrderly r.log × ((end : Replay FlatState) × (end.flat ≡ r.ended) × IsFullOrder board r.log (start r.log (flat_at_start image harts)) (order_of r.journal) end) → IsRight (flat_at_start image harts) r
+all_right terms image harts r both = record {
+  orderly = both.0;
+  end = both.1.0;
+  ended = both.1.1;
+  obeyed = both.1.2;
+  acts = orders_drive r.log (start r.log (flat_at_start image harts)) both.1.0 (order_of r.journal) (both.1.2.0, both.1.2.1, both.1.2.2.leads) ∙ ap (λ t. Some t) both.1.1;
+}
+
+start_with : (terms : Terms) (image : Image) (harts : ℕ) → terms.pages ≡ image.pages → IsBoard harts terms.pages (flat_at_start image harts)
+start_with terms image harts pages = subst (λ p. IsBoard harts p (flat_at_start image harts)) (sym pages) (start_is_board image harts)
+
 pub recordings_are_right : RecordingsAreRight
 recordings_are_right terms image harts outside list r pages of is =
-    let first = flat_at_start image harts in
-    let on : IsBoard harts terms.pages first = subst (λ p. IsBoard harts p first) (sym pages) (start_is_board image harts) in
-    let both = recorded board_machine terms harts (IsBoard harts terms.pages) (board_faithful harts terms.pages) first outside on (no_place harts) list r of is in
-    record {
-      orderly = both.0;
-      end = both.1.0;
-      ended = both.1.1;
-      obeyed = both.1.2;
-      acts = orders_drive r.log (start r.log first) both.1.0 (order_of r.journal) (both.1.2.0, both.1.2.1, both.1.2.2.leads) ∙ ap (λ t. Some t) both.1.1;
-    }
+    all_right terms image harts r
+    (recorded board_machine terms harts (IsBoard harts terms.pages) (board_faithful harts terms.pages) (flat_at_start image harts) outside (start_with terms image harts pages) (no_place harts) list r of is)
+
+pub rounds_are_right : RoundsAreRight
+rounds_are_right terms image harts outside r pages is =
+    all_right terms image harts r
+    (recorded_in_rounds board_machine terms harts (IsBoard harts terms.pages) (board_faithful harts terms.pages) (flat_at_start image harts) outside (start_with terms image harts pages) (no_place harts) r is)

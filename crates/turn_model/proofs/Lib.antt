@@ -3,4 +3,5 @@ pub mod Ways
 pub mod Making
 pub mod Turning
 pub mod Listing
+pub mod Rounding
 pub mod BoardFacts

@@ -3,7 +3,6 @@ use Rattle.std.proofs.Common.{◌≡◌, ℕ, zero, suc, ◌+◌, ◌-◌, ◌<�
 use Rattle.std.specs.Option.{option_map_or, option_and_then}
 use Rattle.std.proofs.Math.Nat.{sub-add-min_cancel}
 use Rattle.std.proofs.lemmas.Option.{none-some, same_Some}
-use Rattle.rv_words.specs.declared.shared.Mode.{Mode}
 use Rattle.rv_words.specs.declared.shared.Cause.TheVariants.{Cut}
 use Rattle.log_entry.specs.declared.log.Entry.{Entry}
 use Rattle.orders_law.specs.Orders.{below, IsFull}
@@ -72,8 +71,8 @@ module _ {S V : Type 0} (machine : Machine S V) (terms : Terms) (many : ℕ) (Go
   GoesTo b c = Goes machine terms many terms.pages Good faithful b c
 
   -- a hart makes no more moves than its last order lets it
-  can_move : (h most : ℕ) (b : Board S) → h < many → AsOrdered b → CanMove machine terms many terms.pages Good faithful h (min most (whole_leg machine terms h b)) (recording_of b)
-  can_move h most b inside orders i less = by (last_order b h) refl (min_least most (whole_leg machine terms h b) i less) where
+  pub can_leg : (h : ℕ) (b : Board S) → h < many → AsOrdered b → CanMove machine terms many terms.pages Good faithful h (whole_leg machine terms h b) (recording_of b)
+  can_leg h b inside orders i less = by (last_order b h) refl less where
     by : (o : Option Order) → last_order b h ≡ o → i < leg_by machine terms h b o → (machine.flat.count b.at.flat h + i < terms.limit) × IsPolled (stream b h) (machine.flat.count b.at.flat h + i)
     by None is l = absurd (omega (arith, l))
     by (Some Rest) is l = absurd (omega (arith, l))
@@ -81,6 +80,9 @@ module _ {S V : Type 0} (machine : Machine S V) (terms : Terms) (many : ℕ) (Go
     by (Some (Go until)) is l =
         let short = leg_short machine terms h (until - machine.flat.count b.at.flat h) b.at in
         orders h inside (Go until) is (machine.flat.count b.at.flat h + i) (omega arith) (omega (arith, l, short))
+
+  can_move : (h most : ℕ) (b : Board S) → h < many → AsOrdered b → CanMove machine terms many terms.pages Good faithful h (min most (whole_leg machine terms h b)) (recording_of b)
+  can_move h most b inside orders i less = can_leg h b inside orders i (min_least most (whole_leg machine terms h b) i less)
 
   listed_goes : (list : List (ℕ × ℕ)) (b c : Board S) → SoundBoard b → AsOrdered b → OfHarts many list → listed machine terms list b ≡ Some c → GoesTo b c × AsOrdered c
   listed_goes [] b c sound orders of is = (
@@ -108,7 +110,7 @@ module _ {S V : Type 0} (machine : Machine S V) (terms : Terms) (many : ℕ) (Go
       (then_goes machine terms many terms.pages Good faithful b (cut machine terms b) c one.0 rest.0, rest.1)
 
   module _ (first : S) (outside : Outside) (good : Good first) (unmoved : (h : ℕ) → machine.flat.count first h ≡ 0) where
-    abbrev begin : Board S
+    abbrev pub begin : Board S
     begin = board_at_start terms many first outside
 
     -- the recording with which a board starts, with so many places
@@ -118,22 +120,22 @@ module _ {S V : Type 0} (machine : Machine S V) (terms : Terms) (many : ℕ) (Go
     begins : recording_of begin ≡ first_recording terms.pages many first
     begins = ap from (replicate_size many [])
 
-    begin_sound : SoundBoard begin
+    pub begin_sound : SoundBoard begin
     begin_sound = record {
       ordered = subst (IsOrdered machine.flat many Good faithful.steady faithful.timed terms.pages terms.limit) (sym begins) (first_ordered machine.flat many Good faithful.steady faithful.timed terms.pages terms.limit first good unmoved);
       fits = subst (λ (r : Recording S). FitsAt machine.flat many terms.pages r.at) (sym begins) (first_fits machine.flat many Good faithful.steady faithful.timed terms.pages terms.limit first good unmoved);
       orders_size = replicate_size many None;
     }
 
-    begin_orders : AsOrdered begin
+    pub begin_orders : AsOrdered begin
     begin_orders g l order e = absurd (no_order many g order e)
 
-    goes_orderly : (d : Board S) → GoesTo begin d → IsOrderly (log_of machine terms d)
+    pub goes_orderly : (d : Board S) → GoesTo begin d → IsOrderly (log_of machine terms d)
     goes_orderly d goes =
         let made = subst (λ (r : Recording S). Made machine.flat terms.pages terms.limit r goes.items (recording_of d)) begins goes.made in
         orderly machine.flat many Good faithful.steady faithful.timed terms.pages terms.limit first good unmoved terms.image (log_of machine terms d).cause goes.items (recording_of d) made.0 made.1
 
-    goes_full : (d : Board S) → GoesTo begin d → IsFullOrder machine.flat (log_of machine terms d) (start (log_of machine terms d) first) (order_of d.journal) d.at
+    pub goes_full : (d : Board S) → GoesTo begin d → IsFullOrder machine.flat (log_of machine terms d) (start (log_of machine terms d) first) (order_of d.journal) d.at
     goes_full d goes =
         let log = log_of machine terms d in
         let f = full machine.flat many Good faithful.steady terms.pages terms.limit terms.image log.cause (recording_of begin) (recording_of d) goes.items goes.made.0 begin_sound.ordered.tidy in

@@ -1,9 +1,9 @@
 -- The steps of a turn make items that are allowed, one after another.
-use Rattle.std.proofs.Common.{◌≡◌, ℕ, ◌+◌, ◌<◌, ◌≤◌, List, [], ◌∷◌, ◌++◌, length, map, Option, Some, None, refl, sym, ap, ◌∙◌, subst, arith}
+use Rattle.std.proofs.Common.{◌≡◌, ℕ, ◌+◌, ◌<◌, ◌≤◌, List, [], ◌∷◌, ◌++◌, length, map, Option, refl, sym, ap, ◌∙◌, subst, arith}
 use Rattle.std.proofs.lemmas.List.{length-append, map-append}
 use Rattle.replay_model.specs.Flat.{Flat}
 use Rattle.replay_model.specs.Items.{Item}
-use Rattle.crew_recording.specs.Recording.{Recording, Records, stream_in}
+use Rattle.crew_recording.specs.Recording.{Recording, stream_in}
 use Rattle.crew_recording.specs.Allowed.{IsPolled}
 use Rattle.crew_recording.proofs.Fitting.{FitsAt, fits_all}
 use Rattle.crew_recording.proofs.Ordered.{IsOrdered}

@@ -13,6 +13,7 @@ use Rattle.replay_model.specs.Journal.{order_of}
 use Rattle.turn_model.specs.Machine.{board_machine}
 use Rattle.turn_model.specs.Board.{Outside, Terms, board_at_start}
 use Rattle.turn_model.specs.Lists.{Recorded, recorded_by_list}
+use Rattle.turn_model.specs.Rounds.{IsRecordedInRounds}
 
 -- a flat state of a board with so many harts and pages
 pub record IsBoard (harts pages : ℕ) (s : FlatState) : Type 0 where
@@ -38,4 +39,10 @@ pub record IsRight (first : FlatState) (r : Recorded FlatState) : Type 0 where
 abbrev pub RecordingsAreRight : Type 0
 RecordingsAreRight = (terms : Terms) (image : Image) (harts : ℕ) (outside : Outside) (list : List (ℕ × ℕ)) (r : Recorded FlatState)
     → terms.pages ≡ image.pages → OfHarts harts list → recorded_by_list board_machine terms list (board_at_start terms harts (flat_at_start image harts) outside) ≡ Some r
+    → IsRight (flat_at_start image harts) r
+
+-- and every recording of it in rounds
+abbrev pub RoundsAreRight : Type 0
+RoundsAreRight = (terms : Terms) (image : Image) (harts : ℕ) (outside : Outside) (r : Recorded FlatState)
+    → terms.pages ≡ image.pages → IsRecordedInRounds board_machine terms (board_at_start terms harts (flat_at_start image harts) outside) r
     → IsRight (flat_at_start image harts) r

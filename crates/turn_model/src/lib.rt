@@ -2,7 +2,7 @@
 //! of them, and laws. The functions have no bodies: they promise the laws.
 #![tactic(auto)]
 
-ghost use Rattle.turn_model.specs.Laws.{RecordingsAreRight};
+ghost use Rattle.turn_model.specs.Laws.{RecordingsAreRight, RoundsAreRight};
 ghost use Rattle.turn_model.specs.Worked.{AreRecorded};
 
 /// Recordings that were worked out by hand come to what they should.
@@ -10,8 +10,9 @@ pub fn worked_recordings()
     ensures { AreRecorded }
 {}
 
-/// By whatever list a board is recorded, the log is orderly, and the journal is a full order of it and a run of the
-/// flat machine to the end.
-pub fn recordings_by_list()
-    ensures { RecordingsAreRight }
+/// By whatever list of turns or in rounds a board is recorded, the log is orderly, and the journal is a full order of
+/// it and a run of the flat machine to the end.
+pub fn recordings_are_right()
+    ensures list { RecordingsAreRight }
+    ensures rounds { RoundsAreRight }
 {}
