@@ -24,7 +24,7 @@ use Rattle.crew_recording.proofs.Ordered.{IsOrdered, made_entry, ordered_item}
 use Rattle.crew_recording.proofs.Rules.{log, many_streams, stream_is, keeps_o5, keeps_o8}
 use Rattle.crew_recording.proofs.Behind.{made_at}
 
-leads_on : {S E : Type 0} (step : ℕ → S → Option (S × E)) (r m s : S) (xs ys : List (ℕ × E)) → Leads step r xs m → Leads step m ys s → Leads step r (xs ++ ys) s
+pub leads_on : {S E : Type 0} (step : ℕ → S → Option (S × E)) (r m s : S) (xs ys : List (ℕ × E)) → Leads step r xs m → Leads step m ys s → Leads step r (xs ++ ys) s
 leads_on step r m s [] ys a b = subst (λ z. Leads step z ys s) (sym a) b
 leads_on step r m s (x ∷ xs) ys a b = (a.0, a.1, leads_on step a.0 m s xs ys a.2 b)
 

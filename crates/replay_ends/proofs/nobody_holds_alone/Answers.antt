@@ -1,0 +1,5 @@
+use Rattle.replay_ends.proofs.GoingOn.{nobody_holds_alone}
+use Rattle.replay_ends.proofs.nobody_holds_alone.Goals as goal
+
+pub returns : goal.returns
+returns c = nobody_holds_alone
