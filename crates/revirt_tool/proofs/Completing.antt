@@ -1,5 +1,5 @@
 -- Where nothing fails a recording is done.
-use Rattle.std.proofs.Common.{◌≡◌, ℕ, ◌<◌, Bool, true, false, List, length, Option, Some, None, Result, Ok, Err, IsSomeAnd, inl, inr, if◌then◌else◌, refl, sym, ap, ◌∙◌, subst, arith, true≢false}
+use Rattle.std.proofs.Common.{◌≡◌, ℕ, ◌<◌, Bool, true, false, List, length, Option, Some, None, Result, Ok, Err, IsSomeAnd, inl, inr, if◌then◌else◌, refl, sym, ap, ◌∙◌, subst, arith, true≢false, ⊎_elim}
 use Rattle.std.proofs.lemmas.Option.{none-some, same_Some}
 use Rattle.rv_words.specs.declared.shared.Cause.{Cause}
 use Rattle.rv_words.specs.declared.shared.Cause.TheVariants as causes
@@ -51,7 +51,7 @@ complete words s t o p before after status (ImageRefused rule, ends, closes) ima
     absurd (none-some rule (sym image.accepted ∙ ap (λ f. broken_rule image.wanted.pages f) (sym file) ∙ ap (λ w. broken_rule w.pages refused.file) (sym same) ∙ refused.breaks))
 complete words s t o p before after status (NoMemory, ends, inl prints) image shelf console sink = inr (printed _ 3 3 status before after sink prints)
 complete words s t o p before after status (NoMemory, ends, inr other) image shelf console sink = absurd (true≢false (sym other.0))
-complete words s t o p before after status (ShelfFault, ends, closes) image shelf console sink = absurd (shelf ends.2.rose)
+complete words s t o p before after status (ShelfFault, ends, closes) image shelf console sink = absurd (shelf (⊎_elim (λ fetch. fetch.0.rose) (λ unkept. unkept.fails.rose) ends.2))
 complete words s t o p before after status (Recorded report fault, ends, inr other) image shelf console sink = absurd (true≢false (sym other.0))
 complete words s t o p before after status (Recorded report fault, ends, inl prints) image shelf console sink =
     let none = done report.items fault ends.0 s t o p ends.2 console in

@@ -1,5 +1,5 @@
 -- A recording that was kept keeps what the program promises.
-use Rattle.std.proofs.Common.{◌≡◌, ℕ, Bool, List, ◌++◌, length, replicate, None, IsTrue, sym, ap, ◌∙◌, subst}
+use Rattle.std.proofs.Common.{◌≡◌, ℕ, Bool, List, ◌++◌, length, replicate, None, IsTrue, sym, ap, ◌∙◌, subst, Option, Some, IfSome, Ok, Err, inl, inr, ⊎_elim, refl}
 use Rattle.rv_words.specs.declared.shared.Cause.{Cause}
 use Rattle.elf_image.specs.Image.{Image, start_digest}
 use Rattle.elf_image.specs.Loading.{image_of}
@@ -22,9 +22,9 @@ use Rattle.solo_recording.proofs.BoardClock.{clocked, alone, stays_lone}
 use Rattle.solo_recording.proofs.Solo.{orderly, obeyed}
 use Rattle.recorder.specs.Outside.{Outside}
 use Rattle.recorder.specs.Kept.{RecordsRun, Answered, Comes}
-use Rattle.revirt_tool.specs.World.{Shelf}
+use Rattle.revirt_tool.specs.World.{Shelf, IsUntouched}
 use Rattle.revirt_tool.specs.Recorded.{Wish, IsFetched, HoldsNow, Keeps, is_fault}
-use Rattle.revirt_tool.specs.Serving.{KeepsAs, RecordsAs}
+use Rattle.revirt_tool.specs.Serving.{KeepsAs, RecordsAs, FailsToKeep, ImageAs}
 use Rattle.revirt_tool.specs.declared.ending.Ending.{Ending}
 use Rattle.revirt_tool.specs.declared.ending.Ending.TheVariants.{Usage, NotBuilt, TooLong, ImageRefused, NoMemory, ShelfFault, Recorded}
 
@@ -41,12 +41,6 @@ is_full limit image cause items r run =
 
 obeys : (log : Log) (s t : Replay FlatState) (order : List ℕ) → IsFullOrder board log s order t → Obeys board log s order t
 obeys log s t order full = (full.0, full.1, full.2.leads)
-
--- the shelf before and after a fetch, which changes nothing
-pub record IsSame (s m : Shelf) : Type 0 where
-  pub tells : IsTrue m.tells → IsTrue s.tells
-  pub held : IsTrue m.tells → (n : List ℕ) → m.held n ≡ s.held n
-  pub faults : m.faults ≡ s.faults
 
 keeps : (w : Wish) (file : List ℕ) (log : Log) (ended : Final) (text : List ℕ) (fault : Bool) (s t : Shelf) (o p : Outside)
     → IsFetched w s file → broken_rule w.pages file ≡ None → Comes (image_of w.pages file) w.limit w.log_limit o p log ended
@@ -81,7 +75,7 @@ keeps w file log ended text fault s t o p fetched accepted comes holds told faul
       faults = comes.faults;
     }
 
-holds_since : (w : Wish) (log dump : List ℕ) (s m t : Shelf) → IsSame s m → (IsTrue t.tells → IsTrue m.tells) → HoldsNow w log dump m t → HoldsNow w log dump s t
+holds_since : (w : Wish) (log dump : List ℕ) (s m t : Shelf) → IsUntouched s m → (IsTrue t.tells → IsTrue m.tells) → HoldsNow w log dump m t → HoldsNow w log dump s t
 holds_since w log dump s m t same tells holds = record {
   log_held = holds.log_held;
   dump_held = holds.dump_held;
@@ -89,24 +83,52 @@ holds_since w log dump s m t same tells holds = record {
   faults = holds.faults ∙ same.faults;
 }
 
+each_same : (dump : Option (List ℕ)) (s m t : Shelf) → ((n : List ℕ) → m.held n ≡ s.held n) → IfSome dump (λ name. t.held name ≡ m.held name) → IfSome dump (λ name. t.held name ≡ s.held name)
+each_same None s m t same held = tt
+each_same (Some name) s m t same held = held ∙ same name
+
+fails_since : (w : Wish) (log : List ℕ) (s m t : Shelf) → IsUntouched s m → (IsTrue t.tells → IsTrue m.tells) → FailsToKeep w log m t → FailsToKeep w log s t
+fails_since w log s m t same tells fails = record {
+  rose = subst (λ n. Rose n t.faults) same.faults fails.rose;
+  others = λ told n other no_dump. fails.others told n other no_dump ∙ same.held (tells told) n;
+  log_first = ⊎_elim (λ dump. inl (λ told. each_same w.dump s m t (same.held (tells told)) (dump told))) (λ kept. inr kept) fails.log_first;
+}
+
 -- a run that was recorded, and what keeping it came to
-pub records : (w : Wish) (file : List ℕ) (image : Image) (log : Log) (ended : Final) (s m t : Shelf) (o p : Outside) (ending : Ending)
-    → IsFetched w s file → broken_rule w.pages file ≡ None → image ≡ image_of w.pages file → IsSame s m → (IsTrue t.tells → IsTrue m.tells)
-    → Comes image w.limit w.log_limit o p log ended → KeepsAs w log ended m t ending → RecordsAs w s t o p ending
-records w file image log ended s m t o p NoMemory fetched accepted is same tells comes kept = record {
-  held = λ told n. kept.held told n ∙ same.held (tells told) n;
-  faults = kept.faults ∙ same.faults;
+pub records : (w : Wish) (s m t : Shelf) (o p : Outside) (image : Image) (log : Log) (ended : Final) (ending : Ending)
+    → ImageAs w s m (Ok image) → (IsTrue t.tells → IsTrue m.tells) → Comes image w.limit w.log_limit o p log ended → KeepsAs w log ended m t ending → RecordsAs w s t o p ending
+records w s m t o p image log ended NoMemory read tells comes kept = record {
+  held = λ told n. kept.held told n ∙ read.0.held (tells told) n;
+  faults = kept.faults ∙ read.0.faults;
 }
-records w file image log ended s m t o p ShelfFault fetched accepted is same tells comes kept = record {
-  rose = subst (λ n. Rose n t.faults) same.faults kept.rose;
-  others = λ told n other no_dump. kept.others told n other no_dump ∙ same.held (tells told) n;
-}
-records w file image log ended s m t o p (Recorded text fault) fetched accepted is same tells comes kept =
-    keeps w file log ended text.items fault s t o p fetched accepted (subst (λ i. Comes i w.limit w.log_limit o p log ended) is comes) (holds_since w (spelling log) (ended.memory ++ ended.sent) s m t same tells kept.0) kept.1 kept.2
-records w file image log ended s m t o p (Usage place) fetched accepted is same tells comes kept = absurd kept
-records w file image log ended s m t o p NotBuilt fetched accepted is same tells comes kept = absurd kept
-records w file image log ended s m t o p TooLong fetched accepted is same tells comes kept = absurd kept
-records w file image log ended s m t o p (ImageRefused rule) fetched accepted is same tells comes kept = absurd kept
+records w s m t o p image log ended ShelfFault read tells comes kept =
+    let file = read.1 in
+    inr (record {
+      file = file.0;
+      fetched = file.1;
+      accepted = file.2;
+      log = log;
+      ended = ended;
+      comes = subst (λ i. Comes i w.limit w.log_limit o p log ended) file.3 comes;
+      fails = fails_since w (spelling log) s m t read.0 tells kept;
+    })
+records w s m t o p image log ended (Recorded text fault) read tells comes kept =
+    let file = read.1 in
+    keeps w file.0 log ended text.items fault s t o p file.1 file.2 (subst (λ i. Comes i w.limit w.log_limit o p log ended) file.3 comes) (holds_since w (spelling log) (ended.memory ++ ended.sent) s m t read.0 tells kept.0) kept.1 kept.2
+records w s m t o p image log ended (Usage place) read tells comes kept = absurd kept
+records w s m t o p image log ended NotBuilt read tells comes kept = absurd kept
+records w s m t o p image log ended TooLong read tells comes kept = absurd kept
+records w s m t o p image log ended (ImageRefused rule) read tells comes kept = absurd kept
+
+-- an image that isn't there for the run
+pub refuses : (w : Wish) (s t : Shelf) (o : Outside) (ending : Ending) → ImageAs w s t (Err ending) → RecordsAs w s t o o ending
+refuses w s t o TooLong read = (read.0, (read.1, refl))
+refuses w s t o (ImageRefused rule) read = (read.0, (read.1, refl))
+refuses w s t o NoMemory read = read
+refuses w s t o ShelfFault read = inl (read, refl)
+refuses w s t o (Usage place) read = absurd read
+refuses w s t o NotBuilt read = absurd read
+refuses w s t o (Recorded text fault) read = absurd read
 
 -- its run has one hart, with one count
 pub one_count : (image : Image) (limit log_limit : ℕ) (log : Log) (ended : Final) → RecordsRun image limit log_limit log ended → length ended.harts ≡ length ended.counts

@@ -5,10 +5,10 @@ ghost use Rattle.rv_words.specs.declared.shared.Cause.TheVariants as causes;
 ghost use Rattle.log_entry.specs.Range.{in_range};
 ghost use Rattle.outside.specs.Causes.{HasCause};
 ghost use Rattle.revirt_tool.specs.Recorded.{wish_by};
-ghost use Rattle.revirt_tool.specs.Serving.{KeepsAs, RecordsAs};
+ghost use Rattle.revirt_tool.specs.Serving.{FileAs, ImageAs, KeepsAs, RecordsAs};
 
 use crate::ending::Ending;
-use elf_image::{ImageError, read_image};
+use elf_image::{Image, ImageError, read_image};
 use flat_machine::Final;
 use log_entry::{Cause, Log};
 use log_format::write_log;
@@ -87,6 +87,41 @@ fn keep_run<S: Shelf>(
     }
 }
 
+/// The file of the image.
+fn file_for<S: Shelf>(alloc: Global, request: &Request, shelf: &mut S) -> Result<Vec<u8>, Ending>
+    requires { S.has shelf.old request.now.image.now }
+    ensures writing { S.writing shelf.new ≡ S.writing shelf.old }
+    ensures tells { IsTrue (S.tells shelf.new) → IsTrue (S.tells shelf.old) }
+    ensures file { FileAs (λ v. v.items) (wish_by request.now) (record { tells = S.tells shelf.old; held = S.held shelf.old; faults = S.faults shelf.old }) (record { tells = S.tells shelf.new; held = S.held shelf.new; faults = S.faults shelf.new }) result }
+{
+    match shelf.fetch(alloc, request.image, LONGEST_IMAGE) {
+        Ok(file) => Ok(file),
+        Err(FetchError::Failed) => Err(Ending::ShelfFault),
+        Err(FetchError::TooLong) => Err(Ending::TooLong),
+        Err(FetchError::NoMemory) => Err(Ending::NoMemory),
+    }
+}
+
+/// The image that is asked for.
+fn image_for<S: Shelf>(alloc: Global, request: &Request, shelf: &mut S) -> Result<Image, Ending>
+    requires has { S.has shelf.old request.now.image.now }
+    requires least { 1 ≤ request.now.pages }
+    requires most { request.now.pages ≤ 4096 }
+    ensures writing { S.writing shelf.new ≡ S.writing shelf.old }
+    ensures tells { IsTrue (S.tells shelf.new) → IsTrue (S.tells shelf.old) }
+    ensures image { ImageAs (wish_by request.now) (record { tells = S.tells shelf.old; held = S.held shelf.old; faults = S.faults shelf.old }) (record { tells = S.tells shelf.new; held = S.held shelf.new; faults = S.faults shelf.new }) result }
+{
+    let file = match file_for(alloc, request, shelf) {
+        Ok(file) => file,
+        Err(ending) => return Err(ending),
+    };
+    match read_image(alloc, file.as_slice(), request.pages) {
+        Ok(image) => Ok(image),
+        Err(ImageError::Refused(rule)) => Err(Ending::ImageRefused { rule }),
+        Err(ImageError::NoMemory) => Err(Ending::NoMemory),
+    }
+}
+
 /// Records the run that is asked for.
 pub(crate) fn record<S: Shelf, C: Console, K: Clock>(
     alloc: Global,
@@ -107,33 +142,11 @@ pub(crate) fn record<S: Shelf, C: Console, K: Clock>(
     ensures tells { IsTrue (S.tells shelf.new) → IsTrue (S.tells shelf.old) }
     ensures records { RecordsAs (wish_by request.now) (record { tells = S.tells shelf.old; held = S.held shelf.old; faults = S.faults shelf.old }) (record { tells = S.tells shelf.new; held = S.held shelf.new; faults = S.faults shelf.new }) (record { tells_answers = C.tells_answers console; answers = C.answers console; tells_taken = C.tells_taken console; taken = C.taken console; faults = C.faults console; tells_times = K.tells clock; times = K.answers clock }) (record { tells_answers = C.tells_answers result.console; answers = C.answers result.console; tells_taken = C.tells_taken result.console; taken = C.taken result.console; faults = C.faults result.console; tells_times = K.tells result.clock; times = K.answers result.clock }) result.ending }
 {
-    let file = match shelf.fetch(alloc, request.image, LONGEST_IMAGE) {
-        Ok(file) => file,
-        Err(error) => {
-            let ending = match error {
-                FetchError::Failed => Ending::ShelfFault,
-                FetchError::TooLong => Ending::TooLong,
-                FetchError::NoMemory => Ending::NoMemory,
-            };
+    let image = match image_for(alloc, request, shelf) {
+        Ok(image) => image,
+        Err(ending) => {
             return Ended {
                 ending,
-                console,
-                clock,
-            };
-        }
-    };
-    let image = match read_image(alloc, file.as_slice(), request.pages) {
-        Ok(image) => image,
-        Err(ImageError::Refused(rule)) => {
-            return Ended {
-                ending: Ending::ImageRefused { rule },
-                console,
-                clock,
-            };
-        }
-        Err(ImageError::NoMemory) => {
-            return Ended {
-                ending: Ending::NoMemory,
                 console,
                 clock,
             };
