@@ -2,7 +2,9 @@
 ghost use Rattle.std.specs.Prelude.{◌≡◌, ◌<◌, ◌^◌, ◌++◌, List, length, OnOk, IfOk, All, IsTrue};
 ghost use Rattle.std.specs.Int.{w8, w16, w32, w64, to_le_bytes};
 ghost use Rattle.std.specs.List.{flat_map};
+ghost use Rattle.log_entry.specs.Parts.{unit_of};
 ghost use Rattle.log_entry.specs.Range.{in_range};
+ghost use Rattle.log_entry.specs.Size.{size_of_log};
 ghost use Rattle.log_format.specs.Writing.{IsSpellable, IsSpellableStream};
 ghost use Rattle.log_format.specs.Grammar.{mode_number, left_number, cause_number, kind_number, value_number, mode_format, left_format, cause_format, wait_format, waits_format, input_format, entry_format, stream_format, magic, head_format, spelling};
 
@@ -303,9 +305,10 @@ fn put_head(
     harts: u8,
     pages: u16,
     limit: u64,
-    image: &[u8],
+    image: &[u8; 32],
 ) -> Result<(), AllocError>
-    ensures { OnOk result (out.new.items ≡ out.old.items ++ head_format.spell (magic, (1, (harts, (pages, (limit, image.now)))))) }
+    ensures bytes { OnOk result (out.new.items ≡ out.old.items ++ head_format.spell (magic, (1, (harts, (pages, (limit, image.now)))))) }
+    ensures digest { length image.now ≡ 32 }
 {
     put_board(out, harts, pages)?;
     put_u64(out, limit)?;
@@ -315,7 +318,8 @@ fn put_head(
 
 fn put_log(out: &mut Vec<u8>, l: &Log) -> Result<(), AllocError>
     requires { IsTrue (in_range l.now) }
-    ensures { OnOk result (out.new.items ≡ out.old.items ++ spelling l.now) }
+    ensures bytes { OnOk result (out.new.items ≡ out.old.items ++ spelling l.now) }
+    ensures digest { OnOk result (length l.now.image ≡ 32) }
 {
     let streams = l.streams.items();
     put_head(out, streams.len() as u8, l.pages, l.limit, &l.image)?;
@@ -327,7 +331,8 @@ fn put_log(out: &mut Vec<u8>, l: &Log) -> Result<(), AllocError>
 /// The bytes of a log.
 pub fn write_log(alloc: Global, l: &Log) -> Result<Vec<u8>, NoMemory>
     requires { IsTrue (in_range l.now) }
-    ensures { IfOk result (λ bytes. bytes.items ≡ spelling l.now) }
+    ensures bytes { IfOk result (λ bytes. bytes.items ≡ spelling l.now) }
+    ensures size { IfOk result (λ bytes. length bytes.items ≡ size_of_log (unit_of l.now) l.now.streams) }
 {
     let mut out = Vec::new(alloc);
     match put_log(&mut out, l) {

@@ -4,9 +4,9 @@ use Rattle.log_format.specs.Grammar.{magic, head_format}
 use Rattle.log_format.proofs.Spelling.{behind}
 use Rattle.log_format.proofs.writing.put_head.Goals as goal
 
-pub returns : goal.returns
+pub returns-clause-bytes : goal.returns-clause-bytes
 unfolding head_format
-returns c =
+returns-clause-bytes c =
     let o = c.args.out.now.items in
     let board : List ℕ = to_le_bytes w32 magic ++ (to_le_bytes w8 1 ++ (to_le_bytes w8 c.args.harts ++ to_le_bytes w16 c.args.pages)) in
     let limit : List ℕ = to_le_bytes w64 c.args.limit in

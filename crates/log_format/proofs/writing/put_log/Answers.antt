@@ -11,13 +11,13 @@ use Rattle.log_format.proofs.writing.put_log.Goals as goal
 pub put_streams-requires : goal.put_streams-requires
 put_streams-requires c = subst (λ (streams : List (List Entry)). All IsSpellableStream streams) (sym c.items-streams.ensures) (spellable-from_range c.args.l.now c.requires)
 
-pub returns : goal.returns
-returns c =
+pub returns-clause-bytes : goal.returns-clause-bytes
+returns-clause-bytes c =
     let o = c.args.out.now.items in
     let log = c.args.l.now in
     let streams = c.items-streams.result.now in
     let head : List ℕ = head_format.spell (magic, (1, (length streams, (log.pages, (log.limit, log.image))))) in
     let body : List ℕ = flat_map (stream_format 0 0).spell streams in
     let cause : List ℕ = cause_format.spell log.cause in
-    behind o (head ++ body) cause (behind o head body c.in_ok-put_head.ensures c.in_ok-put_streams.ensures) c.in_ok-put_cause.ensures
+    behind o (head ++ body) cause (behind o head body c.in_ok-put_head.ensures.bytes c.in_ok-put_streams.ensures) c.in_ok-put_cause.ensures
     ∙ ap (λ (bytes : List ℕ). o ++ bytes) (spelling-parts log streams c.items-streams.ensures)
