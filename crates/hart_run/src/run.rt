@@ -17,7 +17,7 @@ ghost use Rattle.replay_model.specs.State.{Replay, IsCrewState};
 ghost use Rattle.hart_run.specs.Agreement.{Agrees, IsAhead, IsFirst, PageOf, StoreHas, Yields, word_seen, pages_known, with_hart, with_move, with_page_held};
 ghost use Rattle.hart_run.specs.Legs.{KeepsPages, MakesLeg};
 ghost use Rattle.hart_run.specs.Run as runs;
-ghost use Rattle.hart_run.specs.Run.{run_at_start, hold_of, lacks, word_held, word_of, move_held, data_ahead, ahead_of, moved_by, stored_in, stronger, needed_in, most_needed, claim_of, IsAbove, taken, store_taken, given, store_given, frames_given, hart_given, ends_with, touched_by, FrameOf, Steps, IsAtDevice, AheadAt};
+ghost use Rattle.hart_run.specs.Run.{run_at_start, hold_of, lacks, word_held, word_of, move_held, LoadsOrAsks, ahead_of, moved_by, stored_in, stronger, needed_in, most_needed, claim_of, IsAbove, taken, store_taken, given, store_given, frames_given, hart_given, ends_with, touched_by, FrameOf, Steps, IsAtDevice, AheadAt};
 
 use elf_image::Image;
 use guest_pages::{Page, PageStore};
@@ -172,29 +172,33 @@ impl HartRun {
         self.frames.page(page_at(at)).load(place as u16)
     }
 
-    /// What an address that is used in a mode asks for.
-    fn asked_at(&self, at: u32, mode: Mode) -> Ahead
-        requires { WordInMemory self.now.hart.pages at }
-        ensures { result ≡ runs.asked_of (find (lacks self.now) ((page_at self.now.frames.unit at, mode) ∷ [])) }
+    /// The word that the data of a move load, 0 where they load none; else what they ask for.
+    fn loaded(&self, need: Need) -> Result<u32, Ahead>
+        requires { NeedIsThere self.now.hart need }
+        ensures { LoadsOrAsks self.now need result }
     {
         let _ = &self.frames;
-        if self.lacks(at, mode) {
-            Ahead::Wants(page_at(at), mode)
-        } else {
-            Ahead::Free
-        }
-    }
-
-    /// What the data of a move ask for.
-    fn data_ahead(&self, need: Need) -> Ahead
-        requires { NeedIsThere self.now.hart need }
-        ensures { result ≡ data_ahead self.now need }
-    {
         match need {
-            Need::Load(at) => self.asked_at(at, Mode::Read),
-            Need::Store(at) | Need::Exclusive(at) => self.asked_at(at, Mode::Write),
-            Need::Device(access) => Ahead::AtDevice(access),
-            Need::Nothing => Ahead::Free,
+            Need::Load(at) => {
+                if self.lacks(at, Mode::Read) {
+                    return Err(Ahead::Wants(page_at(at), Mode::Read));
+                }
+                Ok(self.word_held(at))
+            }
+            Need::Exclusive(at) => {
+                if self.lacks(at, Mode::Write) {
+                    return Err(Ahead::Wants(page_at(at), Mode::Write));
+                }
+                Ok(self.word_held(at))
+            }
+            Need::Store(at) => {
+                if self.lacks(at, Mode::Write) {
+                    return Err(Ahead::Wants(page_at(at), Mode::Write));
+                }
+                Ok(0)
+            }
+            Need::Device(access) => Err(Ahead::AtDevice(access)),
+            Need::Nothing => Ok(0),
         }
     }
 
@@ -209,7 +213,10 @@ impl HartRun {
                     return Ahead::Wants(page_at(pc), Mode::Read);
                 }
                 let word = self.word_held(pc);
-                self.data_ahead(self.hart.data_need(word))
+                match self.loaded(self.hart.data_need(word)) {
+                    Ok(_) => Ahead::Free,
+                    Err(ahead) => ahead,
+                }
             }
             Fetch::Interrupt | Fetch::Fault => Ahead::Free,
         }
@@ -270,19 +277,15 @@ impl HartRun {
         ensures made { Steps self.old self.new result }
     {
         let effect = self.hart.effect(word);
-        let need = effect.need();
-        let ahead = self.data_ahead(need);
-        if ahead != Ahead::Free {
-            return ahead;
+        match self.loaded(effect.need()) {
+            Ok(loaded) => {
+                let wrote = self.hart.make(effect, loaded);
+                self.store(wrote);
+                self.count += 1;
+                Ahead::Free
+            }
+            Err(ahead) => ahead,
         }
-        let loaded = match need {
-            Need::Load(at) | Need::Exclusive(at) => self.word_held(at),
-            Need::Store(_) | Need::Device(_) | Need::Nothing => 0,
-        };
-        let wrote = self.hart.make(effect, loaded);
-        self.store(wrote);
-        self.count += 1;
-        Ahead::Free
     }
 
     /// Makes the next move, where it asks for nothing.
