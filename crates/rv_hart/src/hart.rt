@@ -133,6 +133,7 @@ impl Hart {
 
     /// What the move of a fetched word does. `data_need`, `traps` and `finish` read it; a caller that
     /// asks more than one of them of a move takes the effect once and hands it to `make`.
+    #[inline(always)]
     pub fn effect(&self, word: u32) -> Effect
         ensures effect { result ≡ effect_of self.now word }
         ensures sound { IsSound self.now result }
@@ -175,6 +176,7 @@ impl Hart {
     }
 
     /// Makes the move of an effect that this hart gave, with what it loaded as for `finish`.
+    #[inline(always)]
     pub fn make(&mut self, effect: Effect, loaded: u32) -> Wrote
         requires { IsSound self.old effect }
         ensures after { self.new ≡ after self.old effect loaded }
@@ -439,6 +441,7 @@ impl Hart {
         }
     }
 
+    #[inline(always)]
     #[tactic(auto, unfolding(crate::specs::Effects::instr_effect))]
     fn instr_effect(&self, i: Instr, word: u32) -> Effect
         requires { Fits i }
