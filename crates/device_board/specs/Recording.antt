@@ -5,13 +5,13 @@ use Rattle.rv_words.specs.declared.shared.Input.TheVariants.{Nothing, Empty, Byt
 use Rattle.rv_words.specs.declared.shared.DeviceWord.{DeviceWord}
 use Rattle.rv_words.specs.declared.shared.DeviceWord.TheVariants.{TimeLow, TimeHigh, Rx, Tx}
 use Rattle.outside.specs.declared.console.Asked.{Asked}
-use Rattle.outside.specs.declared.console.Asked.TheVariants as asked
+use Rattle.outside.specs.declared.console.Asked.TheVariants as said
 
 -- what the console answers is the input of a load of RX; the end of its input is no byte
 abbrev pub input_of : Asked → Input
-input_of (asked.Byte b) = Byte b
-input_of asked.Nothing = Empty
-input_of asked.End = Empty
+input_of (said.Byte b) = Byte b
+input_of said.Nothing = Empty
+input_of said.End = Empty
 
 -- the input of an access, where mtime is `mtime`, the clock answered `now`, and the console answers `a`
 abbrev pub recorded_input : DeviceWord → Option ℕ → ℕ → ℕ → Asked → Input

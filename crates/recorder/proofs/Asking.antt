@@ -11,7 +11,7 @@ use Rattle.rv_words.specs.declared.shared.Input.{Input}
 use Rattle.rv_words.specs.declared.shared.DeviceWord.{DeviceWord}
 use Rattle.rv_words.specs.declared.shared.DeviceWord.TheVariants as word
 use Rattle.outside.specs.declared.console.Asked.{Asked}
-use Rattle.outside.specs.declared.console.Asked.TheVariants as asked
+use Rattle.outside.specs.declared.console.Asked.TheVariants as said
 use Rattle.device_board.specs.State.{Devices, with_time}
 use Rattle.device_board.specs.Accesses.{touched, word_touched, timed, stored}
 use Rattle.device_board.specs.Recording.{input_of, recorded_input, answers_taken, bytes_given}
@@ -100,9 +100,9 @@ poll_asks o p r answer asks = record {
 -- the input of an access is what was answered
 input_given : (w : DeviceWord) (store : Option ℕ) (mtime now count ord : ℕ) (a : Asked)
     → map input_of (answers_taken w store a) ≡ filter_map console_input (entries.Touch count ord (recorded_input w store mtime now a) ∷ [])
-input_given word.Rx None mtime now count ord (asked.Byte b) = refl
-input_given word.Rx None mtime now count ord asked.Nothing = refl
-input_given word.Rx None mtime now count ord asked.End = refl
+input_given word.Rx None mtime now count ord (said.Byte b) = refl
+input_given word.Rx None mtime now count ord said.Nothing = refl
+input_given word.Rx None mtime now count ord said.End = refl
 input_given word.Rx (Some v) mtime now count ord a = refl
 input_given word.TimeLow None mtime now count ord a = refl
 input_given word.TimeLow (Some v) mtime now count ord a = refl
@@ -124,9 +124,9 @@ times_taken w store now = if is_time_load w store then now ∷ [] else []
 
 time_given : (w : DeviceWord) (store : Option ℕ) (mtime now count ord : ℕ) (a : Asked)
     → times_from mtime (times_taken w store now) ≡ filter_map time_of (entries.Touch count ord (recorded_input w store mtime now a) ∷ [])
-time_given word.Rx None mtime now count ord (asked.Byte b) = refl
-time_given word.Rx None mtime now count ord asked.Nothing = refl
-time_given word.Rx None mtime now count ord asked.End = refl
+time_given word.Rx None mtime now count ord (said.Byte b) = refl
+time_given word.Rx None mtime now count ord said.Nothing = refl
+time_given word.Rx None mtime now count ord said.End = refl
 time_given word.Rx (Some v) mtime now count ord a = refl
 time_given word.TimeLow None mtime now count ord a = ap (λ x. x ∷ []) (max_comm now mtime)
 time_given word.TimeLow (Some v) mtime now count ord a = refl
@@ -176,9 +176,9 @@ at_time d e now half l w none asked is =
     }
 
 left : (d e : Devices) (l : ℕ) (w : DeviceWord) (store : Option ℕ) (now : ℕ) (a : Asked) → word_touched d w store (recorded_input w store d.mtime now a) ≡ Some (e, l) → Left d e w store now
-left d e l word.Rx None now (asked.Byte b) is = untouched d e b l word.Rx None now refl refl is
-left d e l word.Rx None now asked.Nothing is = untouched d e _ l word.Rx None now refl refl is
-left d e l word.Rx None now asked.End is = untouched d e _ l word.Rx None now refl refl is
+left d e l word.Rx None now (said.Byte b) is = untouched d e b l word.Rx None now refl refl is
+left d e l word.Rx None now said.Nothing is = untouched d e _ l word.Rx None now refl refl is
+left d e l word.Rx None now said.End is = untouched d e _ l word.Rx None now refl refl is
 left d e l word.Rx (Some v) now a is = changed d d e l word.Rx (Some v) now (same d.sent) refl is
 left d e l word.TimeLow None now a is = at_time d e now _ l word.TimeLow refl refl is
 left d e l word.TimeLow (Some v) now a is = changed d d e l word.TimeLow (Some v) now (same d.sent) refl is

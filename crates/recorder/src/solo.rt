@@ -8,7 +8,7 @@ ghost use Rattle.replay_model.specs.Board.{board};
 ghost use Rattle.solo_recording.specs.Recording.{log_of_recording};
 ghost use Rattle.recorder.specs.LoneRun.{IsAtDevice, want_of};
 ghost use Rattle.recorder.specs.Running.{IsSound, Gains, at_start, recording_of, flat_of};
-ghost use Rattle.recorder.specs.Outside as asked;
+ghost use Rattle.recorder.specs.Outside as outsides;
 ghost use Rattle.recorder.specs.Added.{Polls, Accesses, Touches};
 ghost use Rattle.recorder.specs.Turns.{IsGoing, LegTo, GainsTo, PollsTo, GoesTo, TurnsTo, EndsBy};
 
@@ -267,7 +267,7 @@ impl Solo {
         requires limit { until ≤ self.old.limit }
         requires pause { until ≤ self.old.next_poll }
         requires further { self.old.run.count ≤ until }
-        ensures { (o : asked.Outside) → LegTo until o self.old self.new result }
+        ensures { (o : outsides.Outside) → LegTo until o self.old self.new result }
     {
         self.run.advance(until)
     }
@@ -277,7 +277,7 @@ impl Solo {
         requires going { IsGoing self.old }
         requires inside { page < self.old.run.pages }
         requires wants { want_of self.old.run ≡ Some (page, mode) }
-        ensures { (o : asked.Outside) → GainsTo o result self.old self.new }
+        ensures { (o : outsides.Outside) → GainsTo o result self.old self.new }
     {
         if !self.has_room(17) {
             return Err(Ended::By(Cause::Full));
@@ -325,7 +325,7 @@ impl Solo {
         requires limit { until ≤ self.old.limit }
         requires pause { until ≤ self.old.next_poll }
         requires further { self.old.run.count < until }
-        ensures { (o : asked.Outside) → GoesTo until o result self.old self.new }
+        ensures { (o : outsides.Outside) → GoesTo until o result self.old self.new }
     {
         'gains: loop {
             match self.leg(until) {

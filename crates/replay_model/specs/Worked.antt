@@ -16,7 +16,7 @@ use Rattle.replay_model.specs.State.{Replay, start}
 use Rattle.replay_model.specs.Items.{IsFullOrder}
 use Rattle.replay_model.specs.Outcome.{Done, Diverged, IsOutcome}
 use Rattle.replay_model.specs.Inputs.{Agree}
-use Rattle.outside.specs.declared.console.Asked.TheVariants as asked
+use Rattle.outside.specs.declared.console.Asked.TheVariants as said
 use Rattle.replay_model.specs.Journal.{IsLean, order_of}
 
 pub record Scripted : Type 0 where
@@ -114,4 +114,4 @@ pub record AreReplayed : Type 0 where
   pub race : IsOutcome racing race_log (first 2) (Done (ended (8 ∷ 8 ∷ []) false 5))
   pub journal : (t : Replay Scripted) × IsFullOrder racing race_log (start race_log (first 2)) (order_of race_journal) t
   pub lean : IsLean racing race_log (start race_log (first 2)) (order_of race_journal)
-  pub inputs : Agree echoing echo_log (ended (6 ∷ []) true 5) (asked.Nothing ∷ asked.Byte 65 ∷ asked.End ∷ []) (5 ∷ []) (65 ∷ [])
+  pub inputs : Agree echoing echo_log (ended (6 ∷ []) true 5) (said.Nothing ∷ said.Byte 65 ∷ said.End ∷ []) (5 ∷ []) (65 ∷ [])

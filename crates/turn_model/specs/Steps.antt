@@ -11,7 +11,7 @@ use Rattle.log_entry.specs.declared.log.Entry.{Entry}
 use Rattle.log_entry.specs.declared.log.Entry.TheVariants.{Gain, Yield, Poll, Touch}
 use Rattle.log_entry.specs.Parts.{conflict}
 use Rattle.outside.specs.declared.console.Asked.{Asked}
-use Rattle.outside.specs.declared.console.Asked.TheVariants as asked
+use Rattle.outside.specs.declared.console.Asked.TheVariants as said
 use Rattle.device_board.specs.Recording.{recorded_input}
 use Rattle.order_rules.specs.Rules.{has_poll, waits_due}
 use Rattle.replay_model.specs.Holders.{held}
@@ -43,8 +43,8 @@ console_gives Rx None o = first o.answers where
 console_gives Tx (Some v) o = one o.takes where
   one : ℕ → Option (Asked × Outside)
   one zero = None
-  one (suc takes) = Some (asked.Nothing, record o { takes = takes })
-console_gives word store o = Some (asked.Nothing, o)
+  one (suc takes) = Some (said.Nothing, record o { takes = takes })
+console_gives word store o = Some (said.Nothing, o)
 
 abbrev pub clock_answers : List ℕ → Outside → Option (ℕ × Outside)
 clock_answers [] o = None
