@@ -23,7 +23,7 @@ struct RecordOptions {
 
 /// The options with the one at `place`, and whether it has a value, which is the first of `words`.
 fn record_option(
-    given: RecordOptions,
+    mut given: RecordOptions,
     place: u64,
     option: &String,
     words: &[String],
@@ -38,70 +38,29 @@ fn record_option(
 {
     match option.as_str() {
         "--harts" => {
-            let harts = number_behind(given.harts.is_some(), place, words, 1, 8)?;
-            Ok((
-                RecordOptions {
-                    harts: Some(harts as u8),
-                    ..given
-                },
-                true,
-            ))
+            given.harts = Some(number_behind(given.harts.is_some(), place, words, 1, 8)? as u8);
         }
         "--pages" => {
-            let pages = number_behind(given.pages.is_some(), place, words, 1, 4096)?;
-            Ok((
-                RecordOptions {
-                    pages: Some(pages as u16),
-                    ..given
-                },
-                true,
-            ))
+            given.pages = Some(number_behind(given.pages.is_some(), place, words, 1, 4096)? as u16);
         }
         "--limit" => {
-            let limit = number_behind(given.limit.is_some(), place, words, 0, 1_000_000_000_000)?;
-            Ok((
-                RecordOptions {
-                    limit: Some(limit),
-                    ..given
-                },
-                true,
-            ))
+            let most = 1_000_000_000_000;
+            given.limit = Some(number_behind(given.limit.is_some(), place, words, 0, most)?);
         }
         "--log-limit" => {
-            let log_limit = number_behind(
-                given.log_limit.is_some(),
-                place,
-                words,
-                1024,
-                536_870_912,
-            )?;
-            Ok((
-                RecordOptions {
-                    log_limit: Some(log_limit),
-                    ..given
-                },
-                true,
-            ))
+            let again = given.log_limit.is_some();
+            given.log_limit = Some(number_behind(again, place, words, 1024, 536_870_912)?);
         }
         "--dump" => {
-            let dump = name_behind(given.dump.is_some(), place, words, image, log)?;
-            Ok((
-                RecordOptions {
-                    dump: Some(dump),
-                    ..given
-                },
-                true,
-            ))
+            given.dump = Some(name_behind(given.dump.is_some(), place, words, image, log)?);
         }
-        "--rounds" if !given.rounds => Ok((
-            RecordOptions {
-                rounds: true,
-                ..given
-            },
-            false,
-        )),
-        _ => Err(Usage { place }),
+        "--rounds" if !given.rounds => {
+            given.rounds = true;
+            return Ok((given, false));
+        }
+        _ => return Err(Usage { place }),
     }
+    Ok((given, true))
 }
 
 fn record_options(words: &[String], image: &String, log: &String) -> Result<RecordOptions, Usage>
