@@ -33,7 +33,7 @@ printed text ok unprinted status s t quiet (inl done) = done.1
 printed text ok unprinted status s t quiet (inr failed) = absurd (quiet failed.0.faults)
 
 done : (report : List ℕ) (fault : Bool) (w : Wish) (s t : Shelf) (o p : Outside) → Keeps w report fault s t o p → (Rose o.faults p.faults → ⊥) → fault ≡ false
-done report true w s t o p keeps quiet = absurd (quiet (faulted keeps.log.cause o p keeps.fault_is keeps.faults))
+done report true w s t o p keeps quiet = absurd (quiet (faulted keeps.log.cause o p keeps.fault_is keeps.comes.faults))
 done report false w s t o p keeps quiet = refl
 
 pub complete : IsComplete

@@ -10,17 +10,15 @@ use Rattle.flat_machine.specs.Runs.{flat, final_of}
 use Rattle.log_entry.specs.declared.log.Entry.{Entry}
 use Rattle.log_entry.specs.declared.log.Entry.TheVariants.{End}
 use Rattle.log_entry.specs.declared.log.Log.{Log}
-use Rattle.log_entry.specs.Parts.{unit_of}
-use Rattle.log_entry.specs.Size.{size_of_log}
 use Rattle.log_format.specs.Grammar.{spelling}
 use Rattle.order_rules.specs.Orderly.{IsOrderly}
 use Rattle.replay_model.specs.Board.{board}
 use Rattle.replay_model.specs.State.{Replay, start}
 use Rattle.replay_model.specs.Items.{IsFullOrder}
 use Rattle.replay_model.specs.Acts.{acts_of}
+use Rattle.replay_model.specs.Outcome.{Done, IsOutcome}
 use Rattle.recorder.specs.Outside.{Outside}
-use Rattle.recorder.specs.Turns.{Ends, FaultsOf}
-use Rattle.recorder.specs.Kept.{Answered}
+use Rattle.recorder.specs.Kept.{Comes}
 use Rattle.report_view.specs.Report.{report}
 use Rattle.command_words.specs.Grammar.{job_of}
 use Rattle.command_words.specs.declared.job.Job.{Job}
@@ -80,9 +78,9 @@ pub record HoldsNow (w : Wish) (log dump : List ℕ) (s t : Shelf) : Type 0 wher
   pub others : IsTrue t.tells → (n : List ℕ) → n ≢ w.log → w.dump ≢ Some n → t.held n ≡ s.held n
   pub faults : t.faults ≡ s.faults
 
--- An orderly log is kept. The order that names hart 0 once per item obeys it and is full, and drives the flat machine from
--- the image's start to the state that is reported. What console and clock answered, and the bytes that the console took,
--- are those of the log and of that state.
+-- A run was recorded of the image, and its log is kept. The log is orderly. The order that names hart 0 once per item obeys it,
+-- is full, and drives the flat machine from the image's start to the state that is reported, and a replay of the log is done
+-- there. What console and clock answered, and the bytes that the console took, are those of the log and of that state.
 pub record Keeps (w : Wish) (text : List ℕ) (fault : Bool) (s t : Shelf) (o p : Outside) : Type 0 where
   pub file : List ℕ
   pub fetched : IsFetched w s file
@@ -91,14 +89,13 @@ pub record Keeps (w : Wish) (text : List ℕ) (fault : Bool) (s t : Shelf) (o p 
   pub entries : List Entry
   pub end : Replay FlatState
   pub head : HasHead w (image_of w.pages file) (entries ++ End (board.count end.flat 0) ∷ []) log
+  pub comes : Comes (image_of w.pages file) w.limit w.log_limit o p log (final_of end.flat log.cause)
   pub orderly : IsOrderly log
-  pub size : size_of_log (unit_of log) log.streams ≤ w.log_limit
   pub items : ℕ
   pub full : IsFullOrder board log (start log (flat_at_start (image_of w.pages file) 1)) (replicate items 0) end
   pub drives : flat (image_of w.pages file) 1 (acts_of board log (start log (flat_at_start (image_of w.pages file) 1)) (replicate items 0)) ≡ Some end.flat
-  pub ends : Ends w.limit w.log_limit (record { at = end; stream = entries }) log.cause
+  pub replayed : IsOutcome board log (flat_at_start (image_of w.pages file) 1) (Done end.flat)
   pub kept : HoldsNow w (spelling log) (end.flat.memory ++ end.flat.devices.sent) s t
+  pub within : length (spelling log) ≤ w.log_limit
   pub reported : text ≡ report (final_of end.flat log.cause)
-  pub answered : Answered o p log end.flat.devices.sent
   pub fault_is : fault ≡ is_fault log.cause
-  pub faults : FaultsOf log.cause o p

@@ -1,5 +1,5 @@
 -- What a call does with the words, and with which status it answers (docs/command-line.md).
-use Rattle.std.specs.Prelude.{ℕ, ◌≡◌, ◌≢◌, ◌⊎◌, ◌++◌, IfSome, List, Some, None, IsTrue, IsOk, Err, Result, Ok}
+use Rattle.std.specs.Prelude.{ℕ, ◌≡◌, ◌≢◌, ◌⊎◌, ◌++◌, IfSome, List, length, Some, None, IsTrue, IsOk, Err, Result, Ok}
 use Rattle.outside.specs.Causes.{Rose}
 use Rattle.outside.specs.Fetching.{IsPast}
 use Rattle.elf_image.specs.Image.{Image}
@@ -8,6 +8,8 @@ use Rattle.elf_image.specs.Rules.{broken_rule}
 use Rattle.command_words.specs.Grammar.{job_of}
 use Rattle.flat_machine.specs.declared.results.Final.{Final}
 use Rattle.log_entry.specs.declared.log.Log.{Log}
+use Rattle.log_entry.specs.Parts.{unit_of}
+use Rattle.log_entry.specs.Size.{size_of_log}
 use Rattle.log_format.specs.Grammar.{spelling}
 use Rattle.report_view.specs.Report.{report}
 use Rattle.recorder.specs.Kept.{Comes}
@@ -23,6 +25,12 @@ pub record IsRefused (w : Wish) (s : Shelf) (rule : ℕ) : Type 0 where
   pub file : List ℕ
   pub fetched : IsFetched w s file
   pub breaks : broken_rule w.pages file ≡ Some rule
+
+-- the fetched image breaks no rule, so that a run was begun
+pub record IsAccepted (w : Wish) (s : Shelf) : Type 0 where
+  pub file : List ℕ
+  pub fetched : IsFetched w s file
+  pub accepted : broken_rule w.pages file ≡ None
 
 -- the fetch failed, and nothing was kept
 pub record FailsToFetch (s t : Shelf) : Type 0 where
@@ -70,14 +78,15 @@ ImageAs w s t (Err ending) = ⊥
 abbrev pub KeepsAs : Wish → Log → Final → Shelf → Shelf → Ending → Type 0
 KeepsAs w log ended s t NoMemory = IsUntouched s t
 KeepsAs w log ended s t ShelfFault = FailsToKeep w (spelling log) s t
-KeepsAs w log ended s t (Recorded text fault) = HoldsNow w (spelling log) (ended.memory ++ ended.sent) s t × (text.items ≡ report ended) × (fault ≡ is_fault ended.cause)
+KeepsAs w log ended s t (Recorded text fault) =
+    HoldsNow w (spelling log) (ended.memory ++ ended.sent) s t × (length (spelling log) ≡ size_of_log (unit_of log) log.streams) × (text.items ≡ report ended) × (fault ≡ is_fault ended.cause)
 KeepsAs w log ended s t ending = ⊥
 
 -- how a recording ends
 abbrev pub RecordsAs : Wish → Shelf → Shelf → Outside → Outside → Ending → Type 0
 RecordsAs w s t o p TooLong = (IsTrue s.tells → IsPast longest_image (s.held w.image)) × IsRefusal s t o p
 RecordsAs w s t o p (ImageRefused rule) = IsRefused w s rule × IsRefusal s t o p
-RecordsAs w s t o p NoMemory = IsUntouched s t
+RecordsAs w s t o p NoMemory = IsUntouched s t × ((p ≡ o) ⊎ IsAccepted w s)
 RecordsAs w s t o p ShelfFault = (FailsToFetch s t × (p ≡ o)) ⊎ IsUnkept w s t o p
 RecordsAs w s t o p (Recorded report fault) = Keeps w report.items fault s t o p
 RecordsAs w s t o p ending = ⊥

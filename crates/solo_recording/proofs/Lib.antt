@@ -4,6 +4,7 @@ pub mod Tidy
 pub mod Kept
 pub mod Rules
 pub mod Obeying
+pub mod Outcome
 pub mod Taking
 pub mod Solo
 pub mod BoardClock

@@ -138,7 +138,7 @@ module _ {S V : Type 0} (flat : Flat S V) (Good : S → Type 0) (clocked : IsClo
     went : (a t : Replay S) (item : Item) (v : Verdict) → v ≡ CanGo → made flat a 0 item ≡ Some t → goes flat a 0 item v ≡ Some (t, told_of flat a 0 item t)
     went a t item v can is = ap (goes flat a 0 item) can ∙ ap (option_map (λ x. (x, told_of flat a 0 item x))) is
 
-    steps : (r m s : Recording S) (item : Item) (items : List Item) → IsTidy flat Good limit pages r → IsRecorded flat limit r item m → Records flat limit m items s → step flat (log_to s) 0 r.at ≡ Some (m.at, told_of flat r.at 0 item m.at)
+    pub steps : (r m s : Recording S) (item : Item) (items : List Item) → IsTidy flat Good limit pages r → IsRecorded flat limit r item m → Records flat limit m items s → step flat (log_to s) 0 r.at ≡ Some (m.at, told_of flat r.at 0 item m.at)
     steps r m s item items tidy one more = ap (λ i. goes flat r.at 0 i (verdict_on flat r.at 0 i)) (next_is r m s item items tidy one more) ∙ went r.at m.at item (verdict_on flat r.at 0 item) one.goes one.made
 
     -- the moves along the items, each with what a story tells of it
@@ -160,11 +160,18 @@ module _ {S V : Type 0} (flat : Flat S V) (Good : S → Type 0) (clocked : IsClo
     stops a h item Holds none = refl
     stops a h item (HasDiverged rule) none = refl
 
-    -- at its end no hart can go
+    -- at its end the hart's next item is its End
+    pub last_item : (s : Recording S) → IsTidy flat Good limit pages s → next_item flat (log_to s) s.at 0 ≡ Ended
+    last_item s tidy =
+        ap (item_at (flat.count s.at.flat 0)) (first_is s s tidy ∙ at_end s.stream (entries.End (flat.count s.at.flat 0)))
+        ∙ ap (λ b. if not b then Move else Ended) (eq-eqb (flat.count s.at.flat 0) (flat.count s.at.flat 0) refl)
+
+    pub rests : (s : Recording S) → IsTidy flat Good limit pages s → step flat (log_to s) 0 s.at ≡ None
+    rests s tidy = ap (λ i. goes flat s.at 0 i (verdict_on flat s.at 0 i)) (last_item s tidy)
+
+    -- and no hart can go
     over : (s : Recording S) → IsTidy flat Good limit pages s → ((h : ℕ) → flat.next s.at.flat (Run (suc h)) ≡ None) → IsOver (step flat (log_to s)) s.at
-    over s tidy alone zero =
-        ap (λ i. goes flat s.at 0 i (verdict_on flat s.at 0 i)) (ap (item_at (flat.count s.at.flat 0)) (first_is s s tidy ∙ at_end s.stream (entries.End (flat.count s.at.flat 0)))
-        ∙ ap (λ b. if not b then Move else Ended) (eq-eqb (flat.count s.at.flat 0) (flat.count s.at.flat 0) refl))
+    over s tidy alone zero = rests s tidy
     over s tidy alone (suc h) = stops s.at (suc h) Move (verdict_on flat s.at (suc h) Move) (ap (option_map (λ f. record s.at { flat = f })) (alone h))
 
     pub full : (r s : Recording S) (items : List Item) (is : Records flat limit r items s) → IsTidy flat Good limit pages r → ((h : ℕ) → flat.next s.at.flat (Run (suc h)) ≡ None)

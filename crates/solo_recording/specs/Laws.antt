@@ -1,11 +1,12 @@
 -- What holds of each recording of a board with one hart.
-use Rattle.std.specs.Prelude.{ℕ, ◌≡◌, List, length, replicate}
+use Rattle.std.specs.Prelude.{ℕ, ◌≡◌, true, List, length, replicate}
 use Rattle.rv_words.specs.declared.shared.Cause.{Cause}
 use Rattle.flat_machine.specs.State.{FlatState}
 use Rattle.order_rules.specs.Orderly.{IsOrderly}
 use Rattle.replay_model.specs.Board.{board}
 use Rattle.replay_model.specs.State.{start}
 use Rattle.replay_model.specs.Items.{Item, IsFullOrder}
+use Rattle.replay_model.specs.Outcome.{Done, IsOutcome, cause_agrees}
 use Rattle.solo_recording.specs.Lone.{IsLone}
 use Rattle.solo_recording.specs.Recording.{Recording, Records, first_recording, log_of_recording}
 
@@ -25,3 +26,9 @@ abbrev pub RunsAreObeyed : Type 0
 RunsAreObeyed = (limit pages : ℕ) (image : List ℕ) (cause : Cause) (first : FlatState) (items : List Item) (r : Recording FlatState)
     → IsRun limit pages first items r
     → IsFullOrder board (log_of_recording board limit pages image cause r) (start (log_of_recording board limit pages image cause r) first) (replicate (length items) 0) r.at
+
+-- where the cause agrees with the recorded state, a replay of the log is done there
+abbrev pub RunsAreReplayed : Type 0
+RunsAreReplayed = (limit pages : ℕ) (image : List ℕ) (cause : Cause) (first : FlatState) (items : List Item) (r : Recording FlatState)
+    → IsRun limit pages first items r → cause_agrees board (log_of_recording board limit pages image cause r) r.at.flat ≡ true
+    → IsOutcome board (log_of_recording board limit pages image cause r) first (Done r.at.flat)
