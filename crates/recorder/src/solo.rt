@@ -1,9 +1,10 @@
 //! The recorder of one hart: what its log keeps, one entry after another.
 
-ghost use Rattle.std.specs.Prelude.{◌≡◌, ◌+◌, ◌<◌, ◌≤◌, None, Some, IsSome, IfOk, IfErr, OnOk, slice_index, nat_le, length};
+ghost use Rattle.std.specs.Prelude.{◌≡◌, ◌+◌, ◌<◌, ◌≤◌, ◌++◌, ◌∷◌, [], None, Some, IsSome, IfOk, IfErr, OnOk, slice_index, nat_le, length};
 ghost use Rattle.rv_words.specs.declared.shared.Cause.TheVariants as causes;
 ghost use Rattle.rv_words.specs.Addresses.{device_word};
 ghost use Rattle.flat_machine.specs.Runs.{final_of};
+ghost use Rattle.log_entry.specs.declared.log.Entry.TheVariants.{End};
 ghost use Rattle.replay_model.specs.Board.{board};
 ghost use Rattle.solo_recording.specs.Recording.{log_of_recording};
 ghost use Rattle.recorder.specs.LoneRun.{IsAtDevice, want_of};
@@ -52,6 +53,47 @@ impl Model for Solo {
     ghost Value = { running.Running };
 
     ghost view = { λ s. record { run = s.run; limit = s.limit; log_limit = s.log_limit; size = s.size; next_poll = s.next_poll; devices = s.devices.devices; spare = s.devices.spare; numbers = s.numbers.items; ordinal = s.ordinal; stream = s.stream.items } };
+}
+
+/// A list of one thing.
+fn only<T: Drop>(alloc: Global, thing: T) -> Result<Vec<T>, NoMemory>
+    ensures { IfOk result (λ v. v.items ≡ thing ∷ []) }
+{
+    let mut list = Vec::new(alloc);
+    if list.push(thing).is_err() {
+        return Err(NoMemory);
+    }
+    Ok(list)
+}
+
+/// The streams of one hart that ended at a count.
+fn ended_stream(alloc: Global, mut stream: Vec<Entry>, count: u64) -> Result<Streams, NoMemory>
+    ensures { IfOk result (λ s. s ≡ (stream.items ++ End count ∷ []) ∷ []) }
+{
+    if stream.push(Entry::End { count }).is_err() {
+        return Err(NoMemory);
+    }
+    Ok(Streams::of(only(alloc, Entries::of(stream))?))
+}
+
+/// What the run of one hart ended with.
+fn end_of(alloc: Global, run: LoneRun, devices: Devices, cause: Cause) -> Result<Final, NoMemory>
+    ensures { IfOk result (λ f. f ≡ final_of (record { harts = run.hart ∷ []; counts = run.count ∷ []; memory = run.memory; devices = devices.devices }) cause) }
+{
+    let counts = only(alloc, run.count())?;
+    let (hart, memory) = run.into_parts();
+    let harts = only(alloc, hart)?;
+    let stop = devices.stop();
+    let time = devices.time();
+    Ok(Final {
+        cause,
+        stop,
+        harts: Harts::of(harts),
+        counts: Counts::of(counts),
+        memory: Memory::of(memory),
+        sent: Bytes::of(devices.into_sent()),
+        time,
+    })
 }
 
 impl Solo {
@@ -109,40 +151,16 @@ impl Solo {
             devices,
             numbers: _,
             ordinal: _,
-            mut stream,
+            stream,
         } = self;
-        if stream.push(Entry::End { count }).is_err() {
-            return Err(NoMemory);
-        }
-        let Ok(streams) = vec![in alloc; Entries::of(stream)] else {
-            return Err(NoMemory);
-        };
-        let (hart, memory) = run.into_parts();
-        let Ok(harts) = vec![in alloc; hart] else {
-            return Err(NoMemory);
-        };
-        let Ok(counts) = vec![in alloc; count] else {
-            return Err(NoMemory);
-        };
-        let stop = devices.stop();
-        let time = devices.time();
         let log = Log {
             pages,
             limit,
             image,
-            streams: Streams::of(streams),
+            streams: ended_stream(alloc, stream, count)?,
             cause,
         };
-        let ended = Final {
-            cause,
-            stop,
-            harts: Harts::of(harts),
-            counts: Counts::of(counts),
-            memory: Memory::of(memory),
-            sent: Bytes::of(devices.into_sent()),
-            time,
-        };
-        Ok((log, ended))
+        Ok((log, end_of(alloc, run, devices, cause)?))
     }
 
     /// The next number of a page.
