@@ -38,6 +38,17 @@ pub(crate) struct Ended<C: Console, K: Clock> {
     pub clock: K,
 }
 
+/// An ending without a run: the console and the clock go back as they came.
+pub(crate) fn without_run<C: Console, K: Clock>(ending: Ending, console: C, clock: K) -> Ended<C, K>
+    ensures { result ≡ record { ending = ending; console = console; clock = clock } }
+{
+    Ended {
+        ending,
+        console,
+        clock,
+    }
+}
+
 /// Keeps the dump: the memory, and then the bytes sent to the console.
 fn keep_dump<S: Shelf>(shelf: &mut S, name: &str, ended: &Final) -> Result<(), Failed>
     requires writing { S.writing shelf.old ≡ false }
@@ -144,13 +155,7 @@ pub(crate) fn record<S: Shelf, C: Console, K: Clock>(
 {
     let image = match image_for(alloc, request, shelf) {
         Ok(image) => image,
-        Err(ending) => {
-            return Ended {
-                ending,
-                console,
-                clock,
-            };
-        }
+        Err(ending) => return without_run(ending, console, clock),
     };
     match record_one(
         alloc,

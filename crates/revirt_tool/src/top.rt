@@ -8,7 +8,7 @@ ghost use Rattle.revirt_tool.specs.Serving.{EndsAs, Serves};
 ghost use Rattle.revirt_tool.specs.Complete.{IsComplete};
 
 use crate::ending::{Ending, close};
-use crate::recording::{Ended, Request, record};
+use crate::recording::{Ended, Request, record, without_run};
 use command_words::{Job, Usage, read_words};
 use outside::{Clock, Console, Gate, Shelf, Sink};
 use std::alloc::Global;
@@ -56,11 +56,7 @@ fn serve<S: Shelf, C: Console, K: Clock>(
     ensures as_handed_in { wish (texts words.now) ≡ None → (result.console ≡ console) × (result.clock ≡ clock) }
 {
     match read_words(words) {
-        Err(Usage { place }) => Ended {
-            ending: Ending::Usage { place },
-            console,
-            clock,
-        },
+        Err(Usage { place }) => without_run(Ending::Usage { place }, console, clock),
         Ok(
             Job::Record {
                 image,
@@ -83,11 +79,7 @@ fn serve<S: Shelf, C: Console, K: Clock>(
             };
             record(alloc, &request, shelf, console, clock)
         }
-        Ok(_) => Ended {
-            ending: Ending::NotBuilt,
-            console,
-            clock,
-        },
+        Ok(_) => without_run(Ending::NotBuilt, console, clock),
     }
 }
 
