@@ -40,6 +40,11 @@ module _ {S V : Type 0} (flat : Flat S V) (Good : S → Type 0) (clocked : IsClo
     tidy = first_tidy flat Good clocked limit pages first good none
 
     pub replayed : cause_agrees flat (log s) s.at.flat ≡ true → IsOutcome flat (log s) first (Done s.at.flat)
-    replayed agrees =
-        (told flat Good clocked limit pages image cause (first_recording pages first) s items is, (s.at, least (first_recording pages first) s items is tidy,
-        comes_to s (tidy_all flat Good clocked limit pages (first_recording pages first) s items is tidy) agrees))
+    replayed agrees = (
+      told flat Good clocked limit pages image cause (first_recording pages first) s items is,
+      (
+        s.at,
+        least (first_recording pages first) s items is tidy,
+        comes_to s (tidy_all flat Good clocked limit pages (first_recording pages first) s items is tidy) agrees,
+      ),
+    )
