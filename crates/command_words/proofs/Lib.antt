@@ -1,2 +1,4 @@
 mod Digits
 mod Refused
+mod Stopping
+mod FirstBad

@@ -4,3 +4,4 @@ pub mod Tables
 pub mod Grammar
 pub mod Behind
 pub mod Allowed
+pub mod Laws

@@ -6,6 +6,7 @@ ghost use Rattle.std.specs.Prelude.{◌≡◌, length, MatchResult, IfOk, Ok, Er
 ghost use Rattle.command_words.specs.Texts.{texts};
 ghost use Rattle.command_words.specs.Grammar.{job_of, asks_free_run};
 ghost use Rattle.command_words.specs.Allowed.{ArePlaces, IsInRange};
+ghost use Rattle.command_words.specs.Laws.{PlacesAreFirst};
 
 mod job;
 mod other;
@@ -43,3 +44,9 @@ pub fn free_words(words: &[String]) -> bool
 {
     false
 }
+
+/// A refused word is the first that can't stand where it stands: words in the grammar begin with those before it, and
+/// none with those up to it.
+pub fn places_are_first()
+    ensures { PlacesAreFirst }
+{}
