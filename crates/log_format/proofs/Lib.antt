@@ -2,5 +2,6 @@ pub mod Exact
 pub mod Grammar
 pub mod Loop
 pub mod Ranges
+mod Fits
 pub mod Spelling
 pub mod Sizes

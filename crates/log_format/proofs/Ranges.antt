@@ -13,7 +13,7 @@ use Rattle.log_entry.specs.declared.log.Entry.TheVariants.{Gain, Yield, Poll, To
 use Rattle.log_entry.specs.declared.log.Log.{Log}
 use Rattle.log_entry.specs.Room.{entry_without_room, stream_without_room, log_without_room}
 use Rattle.log_entry.specs.Range.{is_wait, is_left, is_entry, is_stream, in_range}
-use Rattle.log_format.specs.Grammar.{left_of, left_number, left_format, wait_format, waits_format, gain_format, yield_format, poll_format, entry_format, stream_format, head_format, log_format}
+use Rattle.log_format.specs.Grammar.{between, at_most, left_of, left_number, left_format, wait_format, waits_format, gain_format, yield_format, poll_format, entry_format, stream_format, head_format, log_format}
 use Rattle.log_format.specs.Writing.{IsSpellable, IsSpellableStream}
 
 pub and_left : (x y : Bool) → (x && y) ≡ true → x ≡ true
@@ -90,21 +90,28 @@ range-from_fits log fits =
 
 -- ---- what is in range can be spelled
 
-six_parts : (a b c d e f : Bool) → (a && b && c && d && e && f) ≡ true → (b ≡ true) × (d ≡ true) × (f ≡ true)
-six_parts a b c d e f h =
+parts_from : (a b c d e f : Bool) → (a && b && c && d && e && f) ≡ true → ((a && b) ≡ true) × ((c && d) ≡ true) × (e ≡ true) × (f ≡ true)
+parts_from a b c d e f h =
     let five = and_left (a && b && c && d && e) f h in
     let four = and_left (a && b && c && d) e five in
-    (and_right a b (and_left (a && b) c (and_left (a && b && c) d four)), and_right (a && b && c) d four, and_right (a && b && c && d && e) f h)
+    let three = and_left (a && b && c) d four in
+    (and_left (a && b) c three, and_from c d (and_right (a && b) c three) (and_right (a && b && c) d four), and_right (a && b && c && d) e five, and_right (a && b && c && d && e) f h)
 
+-- the streams, the pages and the limit are in range, and so is what each stream has
 abbrev pub Parts : Log → Type 0
-Parts log = (nat_le (length log.streams) 8 ≡ true) × (nat_le log.pages 4096 ≡ true) × (list_all (is_stream (length log.streams) log.pages) log.streams ≡ true)
+Parts log =
+    (between 1 8 (length log.streams) ≡ true) × (between 1 4096 log.pages ≡ true) × (at_most 1000000000000 log.limit ≡ true)
+    × (list_all (is_stream (length log.streams) log.pages) log.streams ≡ true)
 
-parts_of : (log : Log) → in_range log ≡ true → Parts log
+pub parts_of : (log : Log) → in_range log ≡ true → Parts log
 parts_of log h =
-    six_parts (nat_le 1 (length log.streams)) (nat_le (length log.streams) 8) (nat_le 1 log.pages) (nat_le log.pages 4096) (nat_le log.limit 1000000000000) (list_all (is_stream (length log.streams) log.pages) log.streams) h
+    parts_from (nat_le 1 (length log.streams)) (nat_le (length log.streams) 8) (nat_le 1 log.pages) (nat_le log.pages 4096) (nat_le log.limit 1000000000000) (list_all (is_stream (length log.streams) log.pages) log.streams) h
+
+pub up_to : (low high n : ℕ) → between low high n ≡ true → n ≤ high
+up_to low high n h = leb-true n high (and_right (nat_le low n) (nat_le n high) h)
 
 pub few_streams : (log : Log) → in_range log ≡ true → length log.streams < 2 ^ 8
-few_streams log h = omega (arith, leb-true (length log.streams) 8 (parts_of log h).0)
+few_streams log h = omega (arith, up_to 1 8 (length log.streams) (parts_of log h).0)
 
 clash : (b : Bool) → b ≡ true → b ≡ false → ⊥
 clash true h e = cc
@@ -117,7 +124,7 @@ pick false h = absurd (h refl)
 list_all_get : {X : Type 0} (p : X → Bool) (xs : List X) (i : ℕ) (d : X) → i < length xs → list_all p xs ≡ true → p (get_or xs i d) ≡ true
 list_all_get p xs i d lt all = pick (p (get_or xs i d)) (λ e. clash (list_all p xs) all (list_all_at p xs i d lt e))
 
-page_fits : (page units : ℕ) → units ≤ 4096 → nat_lt page units ≡ true → page < 2 ^ 16
+pub page_fits : (page units : ℕ) → units ≤ 4096 → nat_lt page units ≡ true → page < 2 ^ 16
 page_fits page units le h = omega (arith, ltb-true page units h)
 
 entry_spellable : (harts units : ℕ) → units ≤ 4096 → (entry : Entry) → is_entry harts units entry ≡ true → IsSpellable entry
@@ -138,5 +145,5 @@ stream_spellable harts units le stream h = record {
 pub spellable-from_range : (log : Log) → in_range log ≡ true → All IsSpellableStream log.streams
 spellable-from_range log h =
     let parts = parts_of log h in
-    All-from_get_or IsSpellableStream log.streams [] (λ i lt. stream_spellable (length log.streams) log.pages (leb-true log.pages 4096 parts.1) (get_or log.streams i [])
-    (list_all_get (is_stream (length log.streams) log.pages) log.streams i [] lt parts.2))
+    All-from_get_or IsSpellableStream log.streams [] (λ i lt. stream_spellable (length log.streams) log.pages (up_to 1 4096 log.pages parts.1) (get_or log.streams i [])
+    (list_all_get (is_stream (length log.streams) log.pages) log.streams i [] lt parts.3))

@@ -1,12 +1,13 @@
 //! The bytes of a log, each part written behind what is there.
-ghost use Rattle.std.specs.Prelude.{◌≡◌, ◌<◌, ◌^◌, ◌++◌, List, length, OnOk, IfOk, All, IsTrue};
+ghost use Rattle.std.specs.Prelude.{◌≡◌, ◌<◌, ◌^◌, ◌++◌, List, length, OnOk, IfOk, All, IsTrue, Ok};
 ghost use Rattle.std.specs.Int.{w8, w16, w32, w64, to_le_bytes};
 ghost use Rattle.std.specs.List.{flat_map};
 ghost use Rattle.log_entry.specs.Parts.{unit_of};
 ghost use Rattle.log_entry.specs.Range.{in_range};
+ghost use Rattle.log_entry.specs.Room.{log_without_room};
 ghost use Rattle.log_entry.specs.Size.{size_of_log};
-ghost use Rattle.log_format.specs.Writing.{IsSpellable, IsSpellableStream};
-ghost use Rattle.log_format.specs.Grammar.{mode_number, left_number, cause_number, kind_number, value_number, mode_format, left_format, cause_format, wait_format, waits_format, input_format, entry_format, stream_format, magic, head_format, spelling};
+ghost use Rattle.log_format.specs.Writing.{IsSpellable, IsSpellableStream, IsNarrow, IsNarrowInput, IsNarrowWait};
+ghost use Rattle.log_format.specs.Grammar.{mode_number, left_number, cause_number, kind_number, value_number, mode_format, left_format, cause_format, wait_format, waits_format, input_format, entry_format, stream_format, magic, head_format, spelling, reading};
 
 use crate::numbers::MAGIC;
 use log_entry::{Cause, Entries, Entry, Input, Log, Mode, WaitFor, Waits};
@@ -89,7 +90,8 @@ fn put_u64(out: &mut Vec<u8>, number: u64) -> Result<(), AllocError>
 }
 
 fn put_input(out: &mut Vec<u8>, input: Input) -> Result<(), AllocError>
-    ensures { OnOk result (out.new.items ≡ out.old.items ++ input_format.spell input) }
+    ensures bytes { OnOk result (out.new.items ≡ out.old.items ++ input_format.spell input) }
+    ensures narrow { IsNarrowInput input }
 {
     put_u8(out, kind_number(input))?;
     put_u64(out, value_number(input))?;
@@ -97,7 +99,8 @@ fn put_input(out: &mut Vec<u8>, input: Input) -> Result<(), AllocError>
 }
 
 fn put_wait(out: &mut Vec<u8>, wait: &WaitFor) -> Result<(), AllocError>
-    ensures { OnOk result (out.new.items ≡ out.old.items ++ (wait_format 0).spell wait.now) }
+    ensures bytes { OnOk result (out.new.items ≡ out.old.items ++ (wait_format 0).spell wait.now) }
+    ensures narrow { OnOk result (IsNarrowWait wait.now) }
 {
     put_u8(out, wait.hart)?;
     put_u64(out, wait.count)?;
@@ -105,7 +108,8 @@ fn put_wait(out: &mut Vec<u8>, wait: &WaitFor) -> Result<(), AllocError>
 }
 
 fn put_wait_list(out: &mut Vec<u8>, waits: &[WaitFor]) -> Result<(), AllocError>
-    ensures { OnOk result (out.new.items ≡ out.old.items ++ flat_map (wait_format 0).spell waits.now) }
+    ensures bytes { OnOk result (out.new.items ≡ out.old.items ++ flat_map (wait_format 0).spell waits.now) }
+    ensures narrow { OnOk result (All IsNarrowWait waits.now) }
 {
     for wait in waits {
         put_wait(out, wait)?;
@@ -115,7 +119,8 @@ fn put_wait_list(out: &mut Vec<u8>, waits: &[WaitFor]) -> Result<(), AllocError>
 
 fn put_counted_waits(out: &mut Vec<u8>, waits: &[WaitFor]) -> Result<(), AllocError>
     requires { length waits.now < 2 ^ 8 }
-    ensures { OnOk result (out.new.items ≡ out.old.items ++ (to_le_bytes w8 (length waits.now) ++ flat_map (wait_format 0).spell waits.now)) }
+    ensures bytes { OnOk result (out.new.items ≡ out.old.items ++ (to_le_bytes w8 (length waits.now) ++ flat_map (wait_format 0).spell waits.now)) }
+    ensures narrow { OnOk result (All IsNarrowWait waits.now) }
 {
     put_u8(out, waits.len() as u8)?;
     put_wait_list(out, waits)?;
@@ -124,7 +129,8 @@ fn put_counted_waits(out: &mut Vec<u8>, waits: &[WaitFor]) -> Result<(), AllocEr
 
 #[tactic(auto, unfolding(crate::specs::Grammar::waits_format))]
 fn put_waits(out: &mut Vec<u8>, waits: &Waits) -> Result<(), AllocError>
-    ensures { OnOk result (out.new.items ≡ out.old.items ++ (waits_format 0).spell waits.now) }
+    ensures bytes { OnOk result (out.new.items ≡ out.old.items ++ (waits_format 0).spell waits.now) }
+    ensures narrow { OnOk result (All IsNarrowWait waits.now.items) }
 {
     put_counted_waits(out, waits.items())
 }
@@ -173,7 +179,8 @@ fn put_gain(
     waits: &Waits,
 ) -> Result<(), AllocError>
     requires { page < 2 ^ 16 }
-    ensures { OnOk result (out.new.items ≡ out.old.items ++ (entry_format 0 0).spell (Entry.Gain count page seq mode waits.now)) }
+    ensures bytes { OnOk result (out.new.items ≡ out.old.items ++ (entry_format 0 0).spell (Entry.Gain count page seq mode waits.now)) }
+    ensures narrow { OnOk result (IsNarrow (Entry.Gain count page seq mode waits.now)) }
 {
     put_privilege(out, 1, count, page as u16, seq)?;
     put_mode(out, mode)?;
@@ -189,7 +196,8 @@ fn put_yield(
     left: Option<Mode>,
 ) -> Result<(), AllocError>
     requires { page < 2 ^ 16 }
-    ensures { OnOk result (out.new.items ≡ out.old.items ++ (entry_format 0 0).spell (Entry.Yield count page seq left)) }
+    ensures bytes { OnOk result (out.new.items ≡ out.old.items ++ (entry_format 0 0).spell (Entry.Yield count page seq left)) }
+    ensures narrow { IsNarrow (Entry.Yield count page seq left) }
 {
     put_privilege(out, 2, count, page as u16, seq)?;
     put_left(out, left)?;
@@ -197,7 +205,8 @@ fn put_yield(
 }
 
 fn put_poll(out: &mut Vec<u8>, count: u64, ord: u32, time: u64, bits: u8) -> Result<(), AllocError>
-    ensures { OnOk result (out.new.items ≡ out.old.items ++ (entry_format 0 0).spell (Entry.Poll count ord time bits)) }
+    ensures bytes { OnOk result (out.new.items ≡ out.old.items ++ (entry_format 0 0).spell (Entry.Poll count ord time bits)) }
+    ensures narrow { IsNarrow (Entry.Poll count ord time bits) }
 {
     put_event(out, 3, count, ord)?;
     put_u64(out, time)?;
@@ -216,7 +225,8 @@ fn put_event(out: &mut Vec<u8>, tag: u8, count: u64, ord: u32) -> Result<(), All
 }
 
 fn put_touch(out: &mut Vec<u8>, count: u64, ord: u32, input: Input) -> Result<(), AllocError>
-    ensures { OnOk result (out.new.items ≡ out.old.items ++ (entry_format 0 0).spell (Entry.Touch count ord input)) }
+    ensures bytes { OnOk result (out.new.items ≡ out.old.items ++ (entry_format 0 0).spell (Entry.Touch count ord input)) }
+    ensures narrow { IsNarrow (Entry.Touch count ord input) }
 {
     put_event(out, 4, count, ord)?;
     put_input(out, input)?;
@@ -224,7 +234,8 @@ fn put_touch(out: &mut Vec<u8>, count: u64, ord: u32, input: Input) -> Result<()
 }
 
 fn put_end(out: &mut Vec<u8>, count: u64) -> Result<(), AllocError>
-    ensures { OnOk result (out.new.items ≡ out.old.items ++ (entry_format 0 0).spell (Entry.End count)) }
+    ensures bytes { OnOk result (out.new.items ≡ out.old.items ++ (entry_format 0 0).spell (Entry.End count)) }
+    ensures narrow { IsNarrow (Entry.End count) }
 {
     put_u8(out, 5)?;
     put_u64(out, count)?;
@@ -233,7 +244,8 @@ fn put_end(out: &mut Vec<u8>, count: u64) -> Result<(), AllocError>
 
 fn put_entry(out: &mut Vec<u8>, entry: &Entry) -> Result<(), AllocError>
     requires { IsSpellable entry.now }
-    ensures { OnOk result (out.new.items ≡ out.old.items ++ (entry_format 0 0).spell entry.now) }
+    ensures bytes { OnOk result (out.new.items ≡ out.old.items ++ (entry_format 0 0).spell entry.now) }
+    ensures narrow { OnOk result (IsNarrow entry.now) }
 {
     match entry {
         Entry::Gain {
@@ -262,7 +274,8 @@ fn put_entry(out: &mut Vec<u8>, entry: &Entry) -> Result<(), AllocError>
 
 fn put_entries(out: &mut Vec<u8>, entries: &[Entry]) -> Result<(), AllocError>
     requires { All IsSpellable entries.now }
-    ensures { OnOk result (out.new.items ≡ out.old.items ++ flat_map (entry_format 0 0).spell entries.now) }
+    ensures bytes { OnOk result (out.new.items ≡ out.old.items ++ flat_map (entry_format 0 0).spell entries.now) }
+    ensures narrow { OnOk result (All IsNarrow entries.now) }
 {
     for entry in entries {
         put_entry(out, entry)?;
@@ -272,7 +285,8 @@ fn put_entries(out: &mut Vec<u8>, entries: &[Entry]) -> Result<(), AllocError>
 
 fn put_stream(out: &mut Vec<u8>, stream: &Entries) -> Result<(), AllocError>
     requires { IsSpellableStream stream.now }
-    ensures { OnOk result (out.new.items ≡ out.old.items ++ (stream_format 0 0).spell stream.now) }
+    ensures bytes { OnOk result (out.new.items ≡ out.old.items ++ (stream_format 0 0).spell stream.now) }
+    ensures narrow { OnOk result (All IsNarrow stream.now) }
 {
     put_u32(out, stream.items().len() as u32)?;
     put_entries(out, stream.items())?;
@@ -281,7 +295,8 @@ fn put_stream(out: &mut Vec<u8>, stream: &Entries) -> Result<(), AllocError>
 
 fn put_streams(out: &mut Vec<u8>, streams: &[Entries]) -> Result<(), AllocError>
     requires { All IsSpellableStream streams.now }
-    ensures { OnOk result (out.new.items ≡ out.old.items ++ flat_map (stream_format 0 0).spell streams.now) }
+    ensures bytes { OnOk result (out.new.items ≡ out.old.items ++ flat_map (stream_format 0 0).spell streams.now) }
+    ensures narrow { OnOk result (All (All IsNarrow) streams.now) }
 {
     for stream in streams {
         put_stream(out, stream)?;
@@ -320,6 +335,7 @@ fn put_log(out: &mut Vec<u8>, l: &Log) -> Result<(), AllocError>
     requires { IsTrue (in_range l.now) }
     ensures bytes { OnOk result (out.new.items ≡ out.old.items ++ spelling l.now) }
     ensures digest { OnOk result (length l.now.image ≡ 32) }
+    ensures narrow { OnOk result (All (All IsNarrow) l.now.streams) }
 {
     let streams = l.streams.items();
     put_head(out, streams.len() as u8, l.pages, l.limit, &l.image)?;
@@ -333,6 +349,7 @@ pub fn write_log(alloc: Global, l: &Log) -> Result<Vec<u8>, NoMemory>
     requires { IsTrue (in_range l.now) }
     ensures bytes { IfOk result (λ bytes. bytes.items ≡ spelling l.now) }
     ensures size { IfOk result (λ bytes. length bytes.items ≡ size_of_log (unit_of l.now) l.now.streams) }
+    ensures again { IfOk result (λ bytes. reading bytes.items ≡ Ok (log_without_room l.now)) }
 {
     let mut out = Vec::new(alloc);
     match put_log(&mut out, l) {

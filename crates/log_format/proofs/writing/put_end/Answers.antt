@@ -4,9 +4,9 @@ use Rattle.log_format.specs.Grammar.{entry_format, end_format}
 use Rattle.log_format.proofs.Spelling.{behind}
 use Rattle.log_format.proofs.writing.put_end.Goals as goal
 
-pub returns : goal.returns
+pub returns-clause-bytes : goal.returns-clause-bytes
 unfolding entry_format end_format
-returns c =
+returns-clause-bytes c =
     let o = c.args.out.now.items in
     let tag : List ℕ = to_le_bytes w8 5 in
     let count : List ℕ = to_le_bytes w64 c.args.count in

@@ -19,5 +19,5 @@ returns-clause-bytes c =
     let head : List ℕ = head_format.spell (magic, (1, (length streams, (log.pages, (log.limit, log.image))))) in
     let body : List ℕ = flat_map (stream_format 0 0).spell streams in
     let cause : List ℕ = cause_format.spell log.cause in
-    behind o (head ++ body) cause (behind o head body c.in_ok-put_head.ensures.bytes c.in_ok-put_streams.ensures) c.in_ok-put_cause.ensures
+    behind o (head ++ body) cause (behind o head body c.in_ok-put_head.ensures.bytes c.in_ok-put_streams.ensures.bytes) c.in_ok-put_cause.ensures
     ∙ ap (λ (bytes : List ℕ). o ++ bytes) (spelling-parts log streams c.items-streams.ensures)

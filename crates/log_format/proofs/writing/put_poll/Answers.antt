@@ -4,9 +4,9 @@ use Rattle.log_format.specs.Grammar.{entry_format, poll_format}
 use Rattle.log_format.proofs.Spelling.{behind}
 use Rattle.log_format.proofs.writing.put_poll.Goals as goal
 
-pub returns : goal.returns
+pub returns-clause-bytes : goal.returns-clause-bytes
 unfolding entry_format poll_format
-returns c =
+returns-clause-bytes c =
     let o = c.args.out.now.items in
     let start : List ℕ = to_le_bytes w8 3 ++ (to_le_bytes w64 c.args.count ++ to_le_bytes w32 c.args.ord) in
     let time : List ℕ = to_le_bytes w64 c.args.time in

@@ -1,5 +1,5 @@
 use Rattle.std.proofs.Common.{rules, append_assoc}
 use Rattle.log_format.proofs.writing.put_stream.Goals as goal
 
-pub returns : goal.returns
-returns c = search (rules, append_assoc)
+pub returns-clause-bytes : goal.returns-clause-bytes
+returns-clause-bytes c = search (rules, append_assoc)

@@ -4,10 +4,10 @@ use Rattle.log_format.specs.Grammar.{input_format, entry_format, touch_format}
 use Rattle.log_format.proofs.Spelling.{behind}
 use Rattle.log_format.proofs.writing.put_touch.Goals as goal
 
-pub returns : goal.returns
+pub returns-clause-bytes : goal.returns-clause-bytes
 unfolding entry_format touch_format
-returns c =
+returns-clause-bytes c =
     let o = c.args.out.now.items in
     let start : List ℕ = to_le_bytes w8 4 ++ (to_le_bytes w64 c.args.count ++ to_le_bytes w32 c.args.ord) in
     let input : List ℕ = input_format.spell c.args.input in
-    behind o start input c.in_ok-put_event.ensures c.in_ok-put_input.ensures
+    behind o start input c.in_ok-put_event.ensures c.in_ok-put_input.ensures.bytes
