@@ -1,5 +1,5 @@
 -- The waits of a directory follow the log.
-use Rattle.std.proofs.Common.{◌≡◌, ◌≢◌, inl, inr, ℕ, zero, suc, ◌+◌, ◌<◌, List, [], ◌∷◌, ◌++◌, length, Some, slice_get, slice_index, slice_set, unwrap_or, if◌then◌else◌, refl, ap, ◌∙◌, sym, subst, arith}
+use Rattle.std.proofs.Common.{◌≡◌, ◌≢◌, inl, inr, ℕ, zero, suc, ◌+◌, ◌<◌, List, [], ◌∷◌, ◌++◌, length, replicate, Some, slice_get, slice_index, slice_set, unwrap_or, if◌then◌else◌, refl, ap, ◌∙◌, sym, subst, arith}
 use Rattle.std.proofs.lemmas.Bool.{cases_eq}
 use Rattle.std.proofs.lemmas.Bool.Decides.{eqb_tells}
 use Rattle.std.proofs.lemmas.List.{length-set}
@@ -12,7 +12,7 @@ use Rattle.order_rules.specs.Rules.{waits_due, waits_after}
 use Rattle.order_rules.proofs.Numbers.{numbers_name}
 use Rattle.replay_model.proofs.Follow.{index_is}
 use Rattle.privilege_directory.specs.Directory.{by_others}
-use Rattle.privilege_directory.specs.Laws.{yields_after, WaitsFollow, WaitsStillFollow}
+use Rattle.privilege_directory.specs.Laws.{yields_after, WaitsFollow, WaitsBegin, WaitsStillFollow}
 use Rattle.privilege_directory.proofs.Holds.{others_and_one, others_and_own}
 use Rattle.privilege_directory.proofs.Table.{set_here, set_there}
 
@@ -52,6 +52,19 @@ on_page log yields numbers h g page k e is number follow l =
     ap (waits_due log page g) now ∙ ap (waits_after g (waits_due log page g k)) is
     ∙ after_entry g h e (waits_due log page g k) (unwrap_or (slice_get yields page) []) before
     ∙ ap (λ o. by_others g (unwrap_or o [])) (sym (set_here yields page (yields_after h e (unwrap_or (slice_get yields page) [])) l))
+
+number_at_start : (pages page : ℕ) → slice_index (replicate pages 0) page ≡ 0
+number_at_start zero page = refl
+number_at_start (suc n) zero = refl
+number_at_start (suc n) (suc i) = number_at_start n i
+
+yields_at_start : (pages page : ℕ) → unwrap_or (slice_get {X = List WaitFor} (replicate pages []) page) [] ≡ []
+yields_at_start zero page = refl
+yields_at_start (suc n) zero = refl
+yields_at_start (suc n) (suc i) = yields_at_start n i
+
+pub waits_begin : WaitsBegin
+waits_begin log pages page h l = ap (waits_due log page h) (number_at_start pages page) ∙ sym (ap (by_others h) (yields_at_start pages page))
 
 pub waits_still_follow : WaitsStillFollow
 waits_still_follow log yields numbers h i page k e kept at is number follow q g l =

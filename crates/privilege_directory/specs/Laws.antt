@@ -1,5 +1,5 @@
 -- The waits of a directory are those that a log asks for.
-use Rattle.std.specs.Prelude.{ℕ, ◌≡◌, ◌+◌, ◌<◌, ◌++◌, List, [], ◌∷◌, length, slice_get, slice_index, slice_set, Some, unwrap_or}
+use Rattle.std.specs.Prelude.{ℕ, ◌≡◌, ◌+◌, ◌<◌, ◌++◌, List, [], ◌∷◌, length, replicate, slice_get, slice_index, slice_set, Some, unwrap_or}
 use Rattle.log_entry.specs.declared.waits.WaitFor.{WaitFor}
 use Rattle.log_entry.specs.declared.log.Entry.{Entry}
 use Rattle.log_entry.specs.declared.log.Entry.TheVariants.{Yield}
@@ -19,6 +19,10 @@ yields_after h entry yields = []
 abbrev pub WaitsFollow : Log → List (List WaitFor) → List ℕ → Type 0
 WaitsFollow log yields numbers =
     (page h : ℕ) → page < length yields → waits_due log page h (slice_index numbers page) ≡ by_others h (unwrap_or (slice_get yields page) [])
+
+-- so it begins: no entry of a page is taken, and its next number is 0
+abbrev pub WaitsBegin : Type 0
+WaitsBegin = (log : Log) (pages : ℕ) → WaitsFollow log (replicate pages []) (replicate pages 0)
 
 -- so it stays, in a log that keeps O5, where a hart takes the entry of a page with the page's next number
 abbrev pub WaitsStillFollow : Type 0

@@ -1,4 +1,4 @@
-//! Runs on a memory of two pages. Words were encoded by an assembler of RISC-V.
+//! Runs on a memory of one page or two. Words were encoded by an assembler of RISC-V.
 
 use crate::run::{Ahead, HartRun, Pause, is_less};
 use elf_image::{Image, read_image};
@@ -7,14 +7,14 @@ use rv_words::{Access, Mode};
 use std::alloc::Global;
 use std::process::Abort;
 
-fn image(rt: &impl Abort, alloc: Global, words: &[u32]) -> Image {
+fn image(rt: &impl Abort, alloc: Global, words: &[u32], pages: u16) -> Image {
     let mut bytes = Vec::new(alloc);
     for word in words {
         bytes
             .extend_from_slice(&word.to_le_bytes())
             .expect(rt, "memory");
     }
-    read_image(alloc, &bytes, 2).expect(rt, "an image")
+    read_image(alloc, &bytes, pages).expect(rt, "an image")
 }
 
 fn take(rt: &impl Abort, run: &mut HartRun, page: u32, mode: Mode, store: &mut PageStore) {
@@ -57,7 +57,7 @@ const STOPS: [u32; 3] = [0x1000_00b7, 0x0070_0113, 0x0020_a423];
 
 #[test]
 fn a_run_wants_its_page_and_pauses_at_a_device(rt: HostRuntime) {
-    let image = image(&rt, rt.alloc(), &STOPS);
+    let image = image(&rt, rt.alloc(), &STOPS, 1);
     let mut store = PageStore::start(rt.alloc(), &image).expect(&rt, "memory");
     let mut run = HartRun::start(rt.alloc(), 0, 1, &image).expect(&rt, "memory");
     assert_eq!(rt; run.ahead(), Ahead::Wants(0, Mode::Read));
@@ -101,7 +101,7 @@ const ADDS: [u32; 5] = [
 
 #[test]
 fn a_page_travels_from_one_run_to_another_and_back(rt: HostRuntime) {
-    let image = image(&rt, rt.alloc(), &ADDS);
+    let image = image(&rt, rt.alloc(), &ADDS, 2);
     let mut store = PageStore::start(rt.alloc(), &image).expect(&rt, "memory");
     let mut first = HartRun::start(rt.alloc(), 0, 2, &image).expect(&rt, "memory");
     let mut second = HartRun::start(rt.alloc(), 1, 2, &image).expect(&rt, "memory");
@@ -138,7 +138,7 @@ const RESERVES: [u32; 3] = [0x8000_10b7, 0x1000_a12f, 0x0000_006f];
 
 #[test]
 fn a_reservation_ends_with_its_page_alone(rt: HostRuntime) {
-    let image = image(&rt, rt.alloc(), &RESERVES);
+    let image = image(&rt, rt.alloc(), &RESERVES, 2);
     let mut store = PageStore::start(rt.alloc(), &image).expect(&rt, "memory");
     let mut run = HartRun::start(rt.alloc(), 0, 1, &image).expect(&rt, "memory");
     take(&rt, &mut run, 0, Mode::Write, &mut store);
