@@ -6,7 +6,6 @@ use Rattle.std.proofs.lemmas.List.{length-set}
 use Rattle.std.proofs.lemmas.Option.{none-some, same_Some}
 use Rattle.rv_words.specs.declared.shared.Access.{Access}
 use Rattle.rv_words.specs.declared.shared.Input.{Input}
-use Rattle.rv_words.specs.declared.shared.Mode.{Mode}
 use Rattle.rv_words.specs.declared.shared.Mode.TheVariants.{Read, Write}
 use Rattle.rv_hart.specs.State.{Hart}
 use Rattle.rv_hart.specs.Effects.{effect_of, fetch_of}
@@ -20,7 +19,7 @@ use Rattle.rv_hart.specs.declared.effect.Wrote.{Wrote}
 use Rattle.device_board.specs.State.{Devices, with_time}
 use Rattle.device_board.specs.Accesses.{touched}
 use Rattle.guest_pages.specs.Pages.{page_of}
-use Rattle.flat_machine.specs.State.{FlatState, OnBoard, FitsTogether}
+use Rattle.flat_machine.specs.State.{FlatState, OnBoard}
 use Rattle.flat_machine.specs.Moves.{fetched, fetched_by, next_move, word_round, access_of, stored_by}
 use Rattle.flat_machine.specs.Acts.{next, ran, touch_made, poll_made, accessed, polled, lost, counted_up, with_lines_of}
 use Rattle.flat_machine.specs.declared.act.Act.{Act}
@@ -28,7 +27,7 @@ use Rattle.flat_machine.specs.declared.act.Act.TheVariants as act
 use Rattle.flat_machine.proofs.Acting.{moved_fits, set_fits}
 use Rattle.replay_model.specs.Board.{board, unit, hart_access}
 use Rattle.replay_model.specs.Holders.{held}
-use Rattle.replay_model.specs.State.{Replay, want, IsCrewState}
+use Rattle.replay_model.specs.State.{Replay, want}
 use Rattle.replay_model.proofs.Driving.{mapped}
 use Rattle.hart_run.specs.Run.{Run, hold_of, lacks, word_held, word_of, fetched_from, data_ahead, ahead_from, ahead_of, move_held, loaded_held, moved_by, IsOneRun}
 use Rattle.hart_run.specs.Agreement.{Agrees, Asks}
@@ -39,8 +38,8 @@ use Rattle.hart_run.proofs.Agreed.{is_held, held_word, fetch_above, ahead_agrees
 use Rattle.hart_run.proofs.Moved.{NotWants, next_is, move_made, same_board, after_move}
 use Rattle.hart_run.proofs.Stepped.{stored_length, stored_unit, agrees_after, differ_after, crew_after, one_after}
 use Rattle.hart_run.proofs.Handed.{hart_agrees, move_agrees}
-use Rattle.replay_law.specs.Local.{actor, HasPages}
-use Rattle.replay_law.proofs.Views.{Fits, Sound, on_board}
+use Rattle.replay_law.proofs.Local.{actor, HasPages}
+use Rattle.replay_law.proofs.Views.{Sound, on_board}
 
 abbrev touched_run : Run → ℕ → Devices × ℕ → Run × Devices
 touched_run r h x = (record r { hart = with_lines_of x.0 h (after r.hart (move_held r) x.1); count = r.count + 1 }, x.0)

@@ -27,7 +27,7 @@ use Rattle.replay_model.specs.Items.{Item, Ended, Move, Makes, CanGo, verdict_on
 use Rattle.replay_model.specs.Laws.{Follow}
 use Rattle.replay_model.proofs.Follow.{still_follow, follow_is_crew, held_here, held_elsewhere}
 use Rattle.hart_run.proofs.Lists.{within, index_is}
-use Rattle.replay_law.specs.Local.{IsSound, IsLocal}
+use Rattle.replay_law.proofs.Local.{IsSound, IsLocal}
 use Rattle.replay_law.proofs.Went.{IsMade, act_of, flat_after, built, step_went}
 use Rattle.replay_law.proofs.Cursors.{guard_of, IsLeft}
 use Rattle.replay_law.proofs.Tables.{held_stays, table_size, rows_size}

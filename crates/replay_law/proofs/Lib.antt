@@ -1,3 +1,4 @@
+pub mod Local
 pub mod Went
 pub mod Cursors
 pub mod Tables
@@ -6,3 +7,7 @@ pub mod Meets
 pub mod Lasting
 pub mod Views
 pub mod Deeds
+pub mod Pages
+pub mod Boards
+pub mod Bounded
+pub mod Orders

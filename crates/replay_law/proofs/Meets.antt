@@ -14,7 +14,7 @@ use Rattle.flat_machine.specs.declared.act.Act.TheVariants.{Run, Touch, Poll, Lo
 use Rattle.replay_model.specs.Flat.{Flat}
 use Rattle.replay_model.specs.State.{Replay, want}
 use Rattle.replay_model.specs.Items.{Item, Ended, Move, Makes, CanGo, item_at, verdict_on, told_of, next_item, step}
-use Rattle.replay_law.specs.Local.{actor, is_on_devices, HasPages, HasDevices, IsUndisturbed, IsSound, IsLocal}
+use Rattle.replay_law.proofs.Local.{actor, is_on_devices, HasPages, HasDevices, IsUndisturbed, IsSound, IsLocal}
 use Rattle.replay_law.proofs.Went.{IsMade, act_with, hold_in, act_of, flat_after, cursor_after, built, step_went, step_goes}
 use Rattle.replay_law.proofs.Cursors.{guard_of, IsLeft, left_stays, takings, one_ordinal}
 use Rattle.replay_law.proofs.Tables.{held_stays, tables_meet}
@@ -231,8 +231,7 @@ module _ {S V : Type 0} (flat : Flat S V) where
           let two = then_goes s b g h x.item y.item a.flat met.end f sound turned x.go x.flat_is y.next y.go y.real alone t.guard_two met.then_two met.told_two y.told_is in
           let one = then_goes s a h g y.item x.item b.flat met.end e sound n y.go y.flat_is x.next x.go x.real (λ d c. alone c d) t.guard_one met.then_one met.told_one x.told_is in
           let same : built flat (built flat s h y.item b.flat) g x.item met.end ≡ built flat (built flat s g x.item a.flat) h y.item met.end =
-          λ i. record { flat = met.end; cursor = sym t.same i; holders = tables_meet s.holders h g (hold_in y.item) (hold_in x.item) turned i } in
-          (
+          λ i. record { flat = met.end; cursor = sym t.same i; holders = tables_meet s.holders h g (hold_in y.item) (hold_in x.item) turned i } in (
             built flat (built flat s g x.item a.flat) h y.item met.end,
             ap (step flat log h) x.built_is ∙ two,
             ap (step flat log g) y.built_is ∙ one ∙ ap (λ z. Some (z, e)) same,

@@ -1,5 +1,5 @@
 -- What a hart sees of a sound state: a run that agrees with it.
-use Rattle.std.proofs.Common.{◌≡◌, ◌≢◌, ℕ, ◌*◌, ◌/◌, ◌<◌, ◌≤◌, inl, inr, List, [], map, length, Option, Some, None, slice_get, slice_index, unwrap_or, true≢false, refl, sym, ap, ◌∙◌, subst, arith, zero-add}
+use Rattle.std.proofs.Common.{◌≡◌, ℕ, ◌/◌, ◌<◌, ◌≤◌, inl, inr, List, [], map, length, Option, Some, None, slice_get, slice_index, unwrap_or, true≢false, refl, sym, ap, ◌∙◌, subst, arith, zero-add}
 use Rattle.std.specs.Prelude.{All, IsSome, is_some, slice_index_or}
 use Rattle.std.specs.List.{range_with_len}
 use Rattle.std.proofs.lemmas.Bool.{cases_lt}
@@ -10,12 +10,12 @@ use Rattle.rv_hart.specs.State.{Hart}
 use Rattle.flat_machine.specs.State.{FlatState, OnBoard, FitsTogether}
 use Rattle.guest_pages.specs.Pages.{page_of, paged, bytes_of}
 use Rattle.replay_model.specs.Board.{board, unit}
-use Rattle.replay_model.specs.Holders.{Holders, row, held}
+use Rattle.replay_model.specs.Holders.{Holders, held}
 use Rattle.replay_model.specs.State.{Replay}
 use Rattle.hart_run.specs.Run.{Run, hold_of, IsOneRun}
 use Rattle.hart_run.specs.Agreement.{Agrees}
 use Rattle.hart_run.proofs.Lists.{within}
-use Rattle.replay_law.specs.Local.{IsSound}
+use Rattle.replay_law.proofs.Local.{IsSound}
 
 -- a state of a board with so many harts and pages
 abbrev pub Fits : ℕ → ℕ → FlatState → Type 0

@@ -1,0 +1,41 @@
+-- What the replays of an orderly log have in common.
+use Rattle.std.specs.Prelude.{ℕ, ◌≡◌, List, length, Option, Some}
+use Rattle.log_entry.specs.declared.log.Log.{Log}
+use Rattle.elf_image.specs.Image.{Image, IsWhole}
+use Rattle.flat_machine.specs.State.{FlatState, flat_at_start}
+use Rattle.flat_machine.specs.declared.results.Step.{Step}
+use Rattle.orders_law.specs.Orders.{IsLeast}
+use Rattle.order_rules.specs.Orderly.{IsOrderly}
+use Rattle.replay_model.specs.Board.{board}
+use Rattle.replay_model.specs.State.{Replay, start}
+use Rattle.replay_model.specs.Items.{IsFullOrder, step, story}
+use Rattle.replay_model.specs.Outcome.{Outcome, IsOutcome, outcome_at}
+
+-- an orderly log is replayed over an image that has its number of pages
+pub record IsReplayable (log : Log) (image : Image) : Type 0 where
+  pub orderly : IsOrderly log
+  pub whole : IsWhole image
+  pub pages : log.pages ≡ image.pages
+
+-- where its replay begins
+abbrev pub first_flat : Log → Image → FlatState
+first_flat log image = flat_at_start image (length log.streams)
+
+abbrev pub first_replay : Log → Image → Replay FlatState
+first_replay log image = start log (first_flat log image)
+
+-- any two full orders that obey the log end in one state, with the same moves of each hart
+abbrev pub AllOrdersAgree : Type 0
+AllOrdersAgree = (log : Log) (image : Image) (order other : List ℕ) (s t : Replay FlatState) → IsReplayable log image
+    → (one : IsFullOrder board log (first_replay log image) order s) (two : IsFullOrder board log (first_replay log image) other t)
+    → (s ≡ t) × ((h : ℕ) → story board log h one.0 ≡ story board log h two.0)
+
+-- where there is a full order, the least order is one too, and it ends in the same state
+abbrev pub LeastEndsThere : Type 0
+LeastEndsThere = (log : Log) (image : Image) (order : List ℕ) (s : Replay FlatState) → IsReplayable log image → IsFullOrder board log (first_replay log image) order s
+    → (made : List (ℕ × Option (List Step))) × IsLeast (step board log) (length log.streams) (first_replay log image) made s
+
+-- so the outcome of a replay is read off the end of any full order
+abbrev pub OrdersTellOutcome : Type 0
+OrdersTellOutcome = (log : Log) (image : Image) (order : List ℕ) (s : Replay FlatState) (outcome : Outcome FlatState) → IsReplayable log image → IsFullOrder board log (first_replay log image) order s
+    → outcome_at board log s ≡ Some outcome → IsOutcome board log (first_flat log image) outcome
