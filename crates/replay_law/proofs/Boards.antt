@@ -29,11 +29,7 @@ use Rattle.hart_run.proofs.Lists.{set_here, within}
 use Rattle.replay_law.proofs.Local.{actor, is_on_devices, HasPages, HasDevices, IsUndisturbed, Meet, IsLocal}
 use Rattle.replay_law.proofs.Pages.{same_list, same_memory}
 use Rattle.replay_law.proofs.Views.{Fits, Sound, view, view_is_one, view_agrees}
-use Rattle.replay_law.proofs.Deeds.{deed, Fine, deed_of, act_done, Done, not_wants, sees_fetched}
-
-bound_to : {A B : Type 0} (f : A → Option B) (o : Option A) (b : B) → option_and_then f o ≡ Some b → (a : A) × (o ≡ Some a) × (f a ≡ Some b)
-bound_to f None b e = absurd (none-some _ e)
-bound_to f (Some a) b e = (a, refl, e)
+use Rattle.replay_law.proofs.Deeds.{bound_to, deed, Fine, deed_of, act_done, Done, not_wants, sees_fetched}
 
 -- the hart of an act that was made is there
 has_hart : (a : Act) (f t : FlatState) → next a f ≡ Some t → (x : Hart) × (slice_get f.harts (actor a) ≡ Some x)
@@ -60,7 +56,7 @@ clash None some = absurd (true≢false (sym some))
 clash (Some Read) some = refl
 clash (Some Write) some = refl
 
-same_where : {X : Type 0} (f g : Hart → X) (d : X) (o : Option Hart) → ((x : Hart) → o ≡ Some x → f x ≡ g x) → option_map_or f o d ≡ option_map_or g o d
+pub same_where : {X : Type 0} (f g : Hart → X) (d : X) (o : Option Hart) → ((x : Hart) → o ≡ Some x → f x ≡ g x) → option_map_or f o d ≡ option_map_or g o d
 same_where f g d None same = refl
 same_where f g d (Some x) same = same x refl
 
@@ -68,7 +64,7 @@ same_then : {X : Type 0} (f g : Hart → Option X) (o : Option Hart) → ((x : H
 same_then f g None same = refl
 same_then f g (Some x) same = same x refl
 
-index_of : (xs : List ℕ) (i : ℕ) → slice_index xs i ≡ unwrap_or (slice_get xs i) 0
+pub index_of : (xs : List ℕ) (i : ℕ) → slice_index xs i ≡ unwrap_or (slice_get xs i) 0
 index_of xs i = sym (unwrap_or-slice_get xs i 0)
 
 is_write : (m : Option Mode) → (m ≡ Some Write) ⊎ (m ≢ Some Write)
@@ -88,7 +84,7 @@ module _ (many pages : ℕ) where
     pub done : Done many pages (actor a) s after.0 t
     pub devices : t.devices ≡ after.1
 
-  made_of : (s : Replay FlatState) (a : Act) (t : FlatState) → Sound many pages s → HasPages board s a → next a s.flat ≡ Some t → Made s a t
+  pub made_of : (s : Replay FlatState) (a : Act) (t : FlatState) → Sound many pages s → HasPages board s a → next a s.flat ≡ Some t → Made s a t
   made_of s a t sound has did =
       let x = has_hart a s.flat t did in
       let r = view pages s (actor a) x.0 in
@@ -114,7 +110,7 @@ module _ (many pages : ℕ) where
       true≢false (sym (clash (held s.holders page h) some) ∙ ap (λ m. conflict m (held s.holders page h)) (sym write) ∙ sound.crew.holders page g h n)
 
   -- another's act leaves what a hart sees
-  view_stays : (s : Replay FlatState) (g h : ℕ) (r q : Run) (t : FlatState) → Sound many pages s → h ≢ g → Agrees r h s → Done many pages g s q t → Agrees r h (record s { flat = t })
+  pub view_stays : (s : Replay FlatState) (g h : ℕ) (r q : Run) (t : FlatState) → Sound many pages s → h ≢ g → Agrees r h s → Done many pages g s q t → Agrees r h (record s { flat = t })
   view_stays s g h r q t sound n a done =
       let harts_size : length t.harts ≡ length s.flat.harts = done.sound.sized.harts_size ∙ sym sound.sized.harts_size in
       let memory_size : length t.memory ≡ length s.flat.memory = done.sound.sized.memory_size ∙ sym sound.sized.memory_size in

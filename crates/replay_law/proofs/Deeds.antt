@@ -1,26 +1,24 @@
 -- What an act makes of what its hart sees, and that it leaves the rest.
-use Rattle.std.proofs.Common.{◌≡◌, ◌≢◌, inl, inr, ℕ, ◌+◌, ◌*◌, ◌<◌, ◌||◌, nat_lt, Bool, true, false, cond, List, length, Option, Some, None, is_some, slice_get, slice_set, slice_index, true≢false, refl, sym, ap, ap₂, ◌∙◌, subst, if◌then◌else◌}
+use Rattle.std.proofs.Common.{◌≡◌, ◌≢◌, inl, inr, ℕ, ◌+◌, ◌*◌, ◌<◌, ◌||◌, nat_lt, Bool, true, false, List, length, Option, Some, None, is_some, slice_get, slice_set, slice_index, refl, sym, ap, ap₂, ◌∙◌, subst, if◌then◌else◌}
 use Rattle.std.specs.Option.{option_map, option_and_then}
 use Rattle.std.proofs.lemmas.Bool.{cases_eq}
 use Rattle.std.proofs.lemmas.List.{length-set}
 use Rattle.std.proofs.lemmas.Option.{none-some, same_Some}
 use Rattle.rv_words.specs.declared.shared.Access.{Access}
 use Rattle.rv_words.specs.declared.shared.Input.{Input}
-use Rattle.rv_words.specs.declared.shared.Mode.TheVariants.{Read, Write}
+use Rattle.rv_words.specs.declared.shared.Mode.TheVariants.{Write}
 use Rattle.rv_hart.specs.State.{Hart}
-use Rattle.rv_hart.specs.Effects.{effect_of, fetch_of}
+use Rattle.rv_hart.specs.Effects.{fetch_of}
 use Rattle.rv_hart.specs.Moves.{after, written, need_of, with_reserved}
 use Rattle.rv_hart.specs.Needs.{page_at}
 use Rattle.rv_hart.specs.declared.effect.Effect.{Effect}
 use Rattle.rv_hart.specs.declared.effect.Effect.TheVariants.{Sets, Jumps, Loads, Stores, Reserves, Commits, Fails, Updates, DeviceLoads, DeviceStores, WritesCsr, Returns, Traps}
-use Rattle.rv_hart.specs.declared.effect.Fetch.{Fetch}
-use Rattle.rv_hart.specs.declared.effect.Fetch.TheVariants as fetch
 use Rattle.rv_hart.specs.declared.effect.Wrote.{Wrote}
 use Rattle.device_board.specs.State.{Devices, with_time}
 use Rattle.device_board.specs.Accesses.{touched}
 use Rattle.guest_pages.specs.Pages.{page_of}
 use Rattle.flat_machine.specs.State.{FlatState, OnBoard}
-use Rattle.flat_machine.specs.Moves.{fetched, fetched_by, next_move, word_round, access_of, stored_by}
+use Rattle.flat_machine.specs.Moves.{fetched, next_move, access_of, stored_by}
 use Rattle.flat_machine.specs.Acts.{next, ran, touch_made, poll_made, accessed, polled, lost, counted_up, with_lines_of}
 use Rattle.flat_machine.specs.declared.act.Act.{Act}
 use Rattle.flat_machine.specs.declared.act.Act.TheVariants as act
@@ -29,16 +27,17 @@ use Rattle.replay_model.specs.Board.{board, unit, hart_access}
 use Rattle.replay_model.specs.Holders.{held}
 use Rattle.replay_model.specs.State.{Replay, want}
 use Rattle.replay_model.proofs.Driving.{mapped}
-use Rattle.hart_run.specs.Run.{Run, hold_of, lacks, word_held, word_of, fetched_from, data_ahead, ahead_from, ahead_of, move_held, loaded_held, moved_by, IsOneRun}
+use Rattle.hart_run.specs.Run.{Run, word_of, ahead_of, move_held, loaded_held, moved_by, IsOneRun}
 use Rattle.hart_run.specs.Agreement.{Agrees, Asks}
 use Rattle.hart_run.specs.declared.run.Ahead.{Ahead}
 use Rattle.hart_run.specs.declared.run.Ahead.TheVariants.{Free, Wants, AtDevice}
 use Rattle.hart_run.proofs.Lists.{set_here, set_there, within}
-use Rattle.hart_run.proofs.Agreed.{is_held, held_word, fetch_above, ahead_agrees}
-use Rattle.hart_run.proofs.Moved.{NotWants, next_is, move_made, same_board, after_move}
+use Rattle.hart_run.proofs.Agreed.{ahead_agrees}
+use Rattle.hart_run.proofs.Moved.{NotWants, fetched_where, next_is, move_made, same_board, after_move}
 use Rattle.hart_run.proofs.Stepped.{stored_length, stored_unit, agrees_after, differ_after, crew_after, one_after}
 use Rattle.hart_run.proofs.Handed.{hart_agrees, move_agrees}
 use Rattle.replay_law.proofs.Local.{actor, HasPages}
+use Rattle.replay_law.proofs.Judged.{nothing}
 use Rattle.replay_law.proofs.Views.{Sound, on_board}
 
 abbrev touched_run : Run → ℕ → Devices × ℕ → Run × Devices
@@ -88,25 +87,9 @@ device_reserves x (WritesCsr rd old number value) loaded access is = refl
 device_reserves x Returns loaded access is = refl
 device_reserves x (Traps cause value) loaded access is = refl
 
-bound_to : {A B : Type 0} (f : A → Option B) (o : Option A) (b : B) → option_and_then f o ≡ Some b → (a : A) × (o ≡ Some a) × (f a ≡ Some b)
+pub bound_to : {A B : Type 0} (f : A → Option B) (o : Option A) (b : B) → option_and_then f o ≡ Some b → (a : A) × (o ≡ Some a) × (f a ≡ Some b)
 bound_to f None b e = absurd (none-some _ e)
 bound_to f (Some a) b e = (a, refl, e)
-
-not_lacking : (b : Bool) (page : ℕ) (rest : Ahead) → NotWants (cond b (Wants page Read) rest) → b ≡ false
-not_lacking true page rest n = absurd n
-not_lacking false page rest n = refl
-
-word_where : (b : Bool) (here word : ℕ) → b ≡ false → here ≡ word → cond b None (Some here) ≡ Some word
-word_where true here word f e = absurd (true≢false f)
-word_where false here word f e = ap Some e
-
-fetched_where : (r : Run) (h : ℕ) (s : Replay FlatState) → Agrees r h s → (f : Fetch) → fetch_of r.hart ≡ f → NotWants (ahead_from r f) → fetched_from r f ≡ fetched_by s.flat.memory f
-fetched_where r h s a fetch.Interrupt e n = refl
-fetched_where r h s a fetch.Fault e n = refl
-fetched_where r h s a (fetch.At pc) e n =
-    let has = not_lacking (lacks r (page_at r.frames.unit pc, Read)) (page_at r.frames.unit pc) (data_ahead r (need_of (effect_of r.hart (word_held r pc)))) n in
-    word_where (lacks r (page_at r.frames.unit pc, Read)) (word_held r pc) (word_round s.flat.memory pc) has
-    (held_word r h s pc a (fetch_above r.hart pc e) (is_held (hold_of r (page_at r.frames.unit pc)) Read has))
 
 -- what it fetches is what it sees
 pub sees_fetched : (r : Run) (h : ℕ) (s : Replay FlatState) → Agrees r h s → NotWants (ahead_of r) → word_of r ≡ fetched r.hart s.flat.memory
@@ -124,10 +107,6 @@ wants_not access (AtDevice at) asks = tt
 
 pub not_wants : (r : Run) (h : ℕ) (s : Replay FlatState) → Agrees r h s → want board s h ≡ None → NotWants (ahead_of r)
 not_wants r h s a none = wants_not (hart_access s.flat h) (ahead_of r) (subst (λ w. Asks w (hart_access s.flat h) (ahead_of r)) none (ahead_agrees r h s a))
-
-nothing : {X : Type 0} (o : Option X) → is_some o ≡ false → o ≡ None
-nothing None e = refl
-nothing (Some x) e = absurd (true≢false e)
 
 touch_next : (r : Run) (h : ℕ) (s : Replay FlatState) (input : Input) → Agrees r h s → NotWants (ahead_of r)
     → next (act.Touch h input) s.flat ≡ (if is_some s.flat.devices.stop then None else option_map (accessed s.flat h r.hart (move_held r)) (answered r input s.flat.devices))

@@ -33,7 +33,7 @@ needs_devices (Makes (entries.Touch count ord input)) = true
 needs_devices (Makes (entries.Poll count ord time bits)) = true
 needs_devices item = false
 
-nothing : {X : Type 0} (o : Option X) → is_some o ≡ false → o ≡ None
+pub nothing : {X : Type 0} (o : Option X) → is_some o ≡ false → o ≡ None
 nothing None e = refl
 nothing (Some x) e = absurd (true≢false e)
 

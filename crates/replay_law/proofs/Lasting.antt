@@ -34,7 +34,7 @@ use Rattle.replay_law.proofs.Tables.{held_stays, table_size, rows_size}
 use Rattle.replay_law.proofs.Judged.{ActIs, guard_met, act_is}
 use Rattle.replay_law.proofs.Meets.{is_left, steps_commute}
 
-number_there : (k : ℕ) (o : Option ℕ) → is_number k o ≡ true → o ≡ Some k
+pub number_there : (k : ℕ) (o : Option ℕ) → is_number k o ≡ true → o ≡ Some k
 number_there k None e = absurd (true≢false (sym e))
 number_there k (Some m) e = ap Some (eqb-true m k e)
 

@@ -10,4 +10,6 @@ pub mod Deeds
 pub mod Pages
 pub mod Boards
 pub mod Bounded
+pub mod Atoms
 pub mod Orders
+pub mod Watched

@@ -167,7 +167,7 @@ module _ {S V : Type 0} (flat : Flat S V) where
         }
 
     -- a hart finds its part as it was when another went
-    finds_after : (s : Replay S) (g h : ℕ) (item : Item) (a : S) → Sound s → h ≢ g → verdict_on flat s g item ≡ CanGo → flat_after flat s.flat (act_of flat s g item) ≡ Some a → Finds flat s (built flat s g item a) h
+    pub finds_after : (s : Replay S) (g h : ℕ) (item : Item) (a : S) → Sound s → h ≢ g → verdict_on flat s g item ≡ CanGo → flat_after flat s.flat (act_of flat s g item) ≡ Some a → Finds flat s (built flat s g item a) h
     finds_after s g h item a sound n go did =
         let u = undisturbed_after s g h (act_of flat s g item) a sound n (λ act e. act_is flat s g item act go e) did in
         record {

@@ -1,12 +1,11 @@
 -- All full orders of a replay agree.
-use Rattle.std.proofs.Common.{◌≡◌, ℕ, ◌<◌, ◌≤◌, ◌==◌, Bool, true, false, cond, List, [], ◌∷◌, map, filter, filter_map, replicate, length, Option, Some, None, slice_get, slice_index, unwrap_or, refl, sym, ap, ◌∙◌, subst, arith, zero-add, inl, inr, if◌then◌else◌}
+use Rattle.std.proofs.Common.{◌≡◌, ℕ, ◌≤◌, ◌==◌, Bool, true, false, cond, List, [], ◌∷◌, map, filter, filter_map, replicate, length, Option, Some, None, slice_get, slice_index, unwrap_or, refl, sym, ap, ◌∙◌, subst, arith, zero-add, inl, inr, if◌then◌else◌}
 use Rattle.std.specs.List.{cons_option, range_with_len}
 use Rattle.std.specs.Option.{option_map, option_and_then}
 use Rattle.std.proofs.lemmas.Bool.{cases_lt, eqb-true}
 use Rattle.std.proofs.lemmas.List.{length-replicate, get_or-replicate}
 use Rattle.std.proofs.lemmas.List.FromFn.{length-map-range_with_len, get_or-map-range_with_len}
 use Rattle.std.proofs.lemmas.Option.{none-some, slice_get_past, slice_get-get_or, unwrap_or-slice_get}
-use Rattle.rv_words.specs.declared.shared.Mode.{Mode}
 use Rattle.rv_hart.specs.State.{Hart}
 use Rattle.rv_hart.specs.Moves.{hart_at_start}
 use Rattle.rv_hart.specs.Needs.{page_at}
@@ -21,30 +20,16 @@ use Rattle.orders_law.proofs.Confluence.{orders_agree}
 use Rattle.order_rules.specs.Cursor.{first_left}
 use Rattle.order_rules.specs.Rules as rules
 use Rattle.replay_model.specs.Board.{board, unit}
-use Rattle.replay_model.specs.Holders.{row, held, nobody}
+use Rattle.replay_model.specs.Holders.{held, nobody}
 use Rattle.replay_model.specs.State.{Replay}
 use Rattle.replay_model.specs.Items.{Move, Verdict, HasEnded, Holds, CanGo, HasDiverged, item_at, told_of, step, goes, made, verdict_on, next_item}
 use Rattle.replay_model.proofs.Follow.{follow_is_crew}
+use Rattle.hart_run.proofs.Begun.{row_of_nobody, held_of_nobody}
 use Rattle.replay_law.specs.Laws.{IsReplayable, first_flat, first_replay, AllOrdersAgree, LeastEndsThere, OrdersTellOutcome}
 use Rattle.replay_law.proofs.Views.{Fits}
 use Rattle.replay_law.proofs.Boards.{board_local}
 use Rattle.replay_law.proofs.Lasting.{IsGood, steps_last, steps_meet}
 use Rattle.replay_law.proofs.Bounded.{least_there}
-
-hold_of_nobody : (k g : ℕ) → unwrap_or (slice_get {X = Option Mode} (replicate k None) g) None ≡ None
-hold_of_nobody k g = elim (cases_lt g k) [
-  | inl l ↦ unwrap_or-slice_get (replicate k None) g None ∙ get_or-replicate k g None None l
-  | inr m ↦ ap (λ o. unwrap_or o None) (slice_get_past (replicate k None) g (omega (arith, m, length-replicate {A = Option Mode} k None)))
-]
-
-row_of_nobody : (pages harts page : ℕ) → page < pages → row (nobody pages harts) page ≡ replicate harts None
-row_of_nobody pages harts page l = unwrap_or-slice_get (replicate pages (replicate harts None)) page [] ∙ get_or-replicate pages page (replicate harts None) [] l
-
-held_of_nobody : (pages harts page g : ℕ) → held (nobody pages harts) page g ≡ None
-held_of_nobody pages harts page g = elim (cases_lt page pages) [
-  | inl l ↦ ap (λ z. unwrap_or (slice_get z g) None) (row_of_nobody pages harts page l) ∙ hold_of_nobody harts g
-  | inr m ↦ ap (λ o. unwrap_or (slice_get (unwrap_or o []) g) None) (slice_get_past (replicate pages (replicate harts None)) page (omega (arith, m, length-replicate {A = List (Option Mode)} pages (replicate harts None))))
-]
 
 no_number : (k page : ℕ) → slice_index (replicate k 0) page ≡ 0
 no_number k page = elim (cases_lt page k) [

@@ -10,6 +10,7 @@ use Rattle.replay_model.specs.Board.{board}
 use Rattle.replay_model.specs.State.{Replay, start}
 use Rattle.replay_model.specs.Items.{IsFullOrder, step, story}
 use Rattle.replay_model.specs.Outcome.{Outcome, IsOutcome, outcome_at}
+use Rattle.replay_law.specs.Atomics.{atomics_along}
 
 -- an orderly log is replayed over an image that has its number of pages
 pub record IsReplayable (log : Log) (image : Image) : Type 0 where
@@ -29,6 +30,12 @@ abbrev pub AllOrdersAgree : Type 0
 AllOrdersAgree = (log : Log) (image : Image) (order other : List ℕ) (s t : Replay FlatState) → IsReplayable log image
     → (one : IsFullOrder board log (first_replay log image) order s) (two : IsFullOrder board log (first_replay log image) other t)
     → (s ≡ t) × ((h : ℕ) → story board log h one.0 ≡ story board log h two.0)
+
+-- and with the same atomic moves on each word, in the same order
+abbrev pub AtomicsAgree : Type 0
+AtomicsAgree = (log : Log) (image : Image) (order other : List ℕ) (s t : Replay FlatState) (word : ℕ) → IsReplayable log image
+    → IsFullOrder board log (first_replay log image) order s → IsFullOrder board log (first_replay log image) other t
+    → atomics_along word log (first_replay log image) order ≡ atomics_along word log (first_replay log image) other
 
 -- where there is a full order, the least order is one too, and it ends in the same state
 abbrev pub LeastEndsThere : Type 0

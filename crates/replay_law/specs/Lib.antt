@@ -1,1 +1,2 @@
+pub mod Atomics
 pub mod Laws

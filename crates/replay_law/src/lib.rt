@@ -2,11 +2,13 @@
 //! promise the laws.
 #![tactic(auto)]
 
-ghost use Rattle.replay_law.specs.Laws.{AllOrdersAgree, LeastEndsThere, OrdersTellOutcome};
+ghost use Rattle.replay_law.specs.Laws.{AllOrdersAgree, AtomicsAgree, LeastEndsThere, OrdersTellOutcome};
 
-/// Any two full orders that obey an orderly log end in one state, with the same moves of each hart.
+/// Any two full orders that obey an orderly log end in one state, with the same moves of each hart and the same atomic
+/// moves on each word.
 pub fn all_orders_agree()
-    ensures { AllOrdersAgree }
+    ensures state { AllOrdersAgree }
+    ensures atomics { AtomicsAgree }
 {}
 
 /// Where there is a full order, the least order is one too, and the outcome is read off the end of any.
