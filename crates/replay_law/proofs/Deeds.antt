@@ -63,11 +63,11 @@ Fine r (act.Run h) = ahead_of r ≡ Free
 Fine r (act.Touch h input) = NotWants (ahead_of r)
 Fine r a = Unit {0}
 
-chosen : {A B : Type 0} (b : Bool) (f : A → B) (o : Option A) (q : B) → (if b then None else option_map f o) ≡ Some q → (x : A) × (b ≡ false) × (o ≡ Some x) × (f x ≡ q)
+pub chosen : {A B : Type 0} (b : Bool) (f : A → B) (o : Option A) (q : B) → (if b then None else option_map f o) ≡ Some q → (x : A) × (b ≡ false) × (o ≡ Some x) × (f x ≡ q)
 chosen true f o q e = absurd (none-some _ e)
 chosen false f o q e = let m = mapped f o q e in (m.0, refl, m.1, m.2)
 
-allowed : {B : Type 0} (b : Bool) (v q : B) → (if b then None else Some v) ≡ Some q → (b ≡ false) × (v ≡ q)
+pub allowed : {B : Type 0} (b : Bool) (v q : B) → (if b then None else Some v) ≡ Some q → (b ≡ false) × (v ≡ q)
 allowed true v q e = absurd (none-some _ e)
 allowed false v q e = (refl, same_Some _ _ e)
 

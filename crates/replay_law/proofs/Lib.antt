@@ -10,6 +10,10 @@ pub mod Deeds
 pub mod Pages
 pub mod Boards
 pub mod Bounded
+pub mod Shares
 pub mod Atoms
 pub mod Orders
 pub mod Watched
+pub mod Streams
+pub mod Totals
+pub mod Ending

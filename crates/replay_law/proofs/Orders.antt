@@ -1,8 +1,8 @@
 -- All full orders of a replay agree.
-use Rattle.std.proofs.Common.{◌≡◌, ℕ, ◌≤◌, ◌==◌, Bool, true, false, cond, List, [], ◌∷◌, map, filter, filter_map, replicate, length, Option, Some, None, slice_get, slice_index, unwrap_or, refl, sym, ap, ◌∙◌, subst, arith, zero-add, inl, inr, if◌then◌else◌}
+use Rattle.std.proofs.Common.{◌≡◌, ℕ, suc, ◌≤◌, ◌==◌, Bool, true, false, cond, List, [], ◌∷◌, map, filter, filter_map, replicate, length, Option, Some, None, slice_get, slice_index, unwrap_or, refl, sym, ap, ◌∙◌, subst, arith, zero-add, inl, inr, if◌then◌else◌}
 use Rattle.std.specs.List.{cons_option, range_with_len}
 use Rattle.std.specs.Option.{option_map, option_and_then}
-use Rattle.std.proofs.lemmas.Bool.{cases_lt, eqb-true}
+use Rattle.std.proofs.lemmas.Bool.{cases_lt}
 use Rattle.std.proofs.lemmas.List.{length-replicate, get_or-replicate}
 use Rattle.std.proofs.lemmas.List.FromFn.{length-map-range_with_len, get_or-map-range_with_len}
 use Rattle.std.proofs.lemmas.Option.{none-some, slice_get_past, slice_get-get_or, unwrap_or-slice_get}
@@ -15,7 +15,7 @@ use Rattle.elf_image.specs.Image.{Image}
 use Rattle.flat_machine.specs.State.{FlatState, FitsTogether}
 use Rattle.flat_machine.specs.declared.results.Step.{Step}
 use Rattle.flat_machine.proofs.Starting.{start_fits}
-use Rattle.orders_law.specs.Orders.{Lasts, Commutes}
+use Rattle.orders_law.specs.Orders.{Leads, Lasts, Commutes}
 use Rattle.orders_law.proofs.Confluence.{orders_agree}
 use Rattle.order_rules.specs.Cursor.{first_left}
 use Rattle.order_rules.specs.Rules as rules
@@ -25,13 +25,14 @@ use Rattle.replay_model.specs.State.{Replay}
 use Rattle.replay_model.specs.Items.{Move, Verdict, HasEnded, Holds, CanGo, HasDiverged, item_at, told_of, step, goes, made, verdict_on, next_item}
 use Rattle.replay_model.proofs.Follow.{follow_is_crew}
 use Rattle.hart_run.proofs.Begun.{row_of_nobody, held_of_nobody}
-use Rattle.replay_law.specs.Laws.{IsReplayable, first_flat, first_replay, AllOrdersAgree, LeastEndsThere, OrdersTellOutcome}
+use Rattle.replay_law.specs.Laws.{IsReplayable, first_flat, first_replay, ItemsCommute, EqualSharesAgree, AllOrdersAgree, LeastEndsThere, OrdersTellOutcome}
 use Rattle.replay_law.proofs.Views.{Fits}
 use Rattle.replay_law.proofs.Boards.{board_local}
 use Rattle.replay_law.proofs.Lasting.{IsGood, steps_last, steps_meet}
+use Rattle.replay_law.proofs.Shares.{is_of, own_apart, shares_agree}
 use Rattle.replay_law.proofs.Bounded.{least_there}
 
-no_number : (k page : ℕ) → slice_index (replicate k 0) page ≡ 0
+pub no_number : (k page : ℕ) → slice_index (replicate k 0) page ≡ 0
 no_number k page = elim (cases_lt page k) [
   | inl l ↦ get_or-replicate k page 0 0 l
   | inr m ↦ sym (unwrap_or-slice_get (replicate k 0) page 0) ∙ ap (λ o. unwrap_or o 0) (slice_get_past (replicate k 0) page (omega (arith, m, length-replicate {A = ℕ} k 0)))
@@ -83,7 +84,7 @@ module _ (log : Log) (image : Image) (is : IsReplayable log image) where
   commutes = steps_meet board (Fits (length log.streams) (units_of log)) (length log.streams) (units_of log) (board_local (length log.streams) (units_of log)) log refl is.orderly.pages_are_numbered is.orderly.holders_are_crew is.orderly.ordinals_and_times_rise
 
   -- further harts can't step
-  no_more : (h : ℕ) (s : Replay FlatState) → Good s → length log.streams ≤ h → step board log h s ≡ None
+  pub no_more : (h : ℕ) (s : Replay FlatState) → Good s → length log.streams ≤ h → step board log h s ≡ None
   no_more h s good l =
       let left : first_left log s.cursor h ≡ None = ap (λ o. slice_get (unwrap_or o []) (slice_index s.cursor.places h)) (slice_get_past log.streams h l) in
       let next : next_item board log s h ≡ Move = ap (item_at (board.count s.flat h)) left in
@@ -113,12 +114,36 @@ stories_agree {V} h made other same =
     ∙ ap (filter_map (λ (m : ℕ × Option V). if m.0 == h then m.1 else None)) same
     ∙ sym (kept (λ (m : ℕ × Option V). if m.0 == h then m.1 else None) (λ (m : ℕ × Option V). m.0 == h) none other)
 
+-- where an order leads the state is good
+reached : (log : Log) (image : Image) (is : IsReplayable log image) (s t : Replay FlatState) (made : List (ℕ × Option (List Step))) → Good log image is s → Leads (step board log) s made t → Good log image is t
+reached log image is s t [] good leads = subst (Good log image is) leads good
+reached log image is s t (x ∷ made) good leads = reached log image is leads.0 t made (lasts log image is s leads.0 x.1 x.0 good leads.1) leads.2
+
+pub items_commute : ItemsCommute
+items_commute log image order s a b e f g h is obeys n did_g did_h =
+    commutes log image is s a b e f g h (reached log image is (first_replay log image) s obeys.0 (good_first log image is) obeys.2) n did_g did_h
+
+-- a hart's share of an order
+share_is : {V : Type 0} (h : ℕ) (made : List (ℕ × V)) → length (filter (λ g. g == h) (map (λ m. m.0) made)) ≡ length (filter (is_of h) made)
+share_is h [] = refl
+share_is h (m ∷ made) = by (m.0 == h) (share_is h made) where
+  by : (b : Bool) → length (filter (λ g. g == h) (map (λ z. z.0) made)) ≡ length (filter (is_of h) made)
+      → length (cond b (m.0 ∷ filter (λ g. g == h) (map (λ z. z.0) made)) (filter (λ g. g == h) (map (λ z. z.0) made))) ≡ length (cond b (m ∷ filter (is_of h) made) (filter (is_of h) made))
+  by true same = ap suc same
+  by false same = same
+
+pub equal_shares_agree : EqualSharesAgree
+equal_shares_agree log image order other s t is one two equal =
+    let share : (h : ℕ) → length (filter (is_of h) one.0) ≡ length (filter (is_of h) two.0) =
+    λ h. sym (share_is h one.0) ∙ ap (λ o. length (filter (λ g. g == h) o)) one.1 ∙ equal h ∙ sym (ap (λ o. length (filter (λ g. g == h) o)) two.1) ∙ share_is h two.0 in
+    let agree = shares_agree (step board log) (Good log image is) (lasts log image is) (commutes log image is) (first_replay log image) s t one.0 two.0 (good_first log image is) one.2 two.2 share in
+    (agree.0, λ h. stories_agree h one.0 two.0 (agree.1 (is_of h) (own_apart (step board log) (Good log image is) (lasts log image is) (commutes log image is) h)))
+
 pub all_orders_agree : AllOrdersAgree
 all_orders_agree log image order other s t is one two =
     let agree = orders_agree (step board log) (Good log image is) (lasts log image is) (commutes log image is) (first_replay log image) s t one.0 two.0 (good_first log image is) one.2 two.2 in (
       agree.0,
-      λ h. stories_agree h one.0 two.0 (agree.1 (λ (m : ℕ × Option (List Step)). m.0 == h)
-          (λ r a b e f g k good n did_g did_k own_g own_k. n (eqb-true g h own_g ∙ sym (eqb-true k h own_k)))),
+      λ h. stories_agree h one.0 two.0 (agree.1 (is_of h) (own_apart (step board log) (Good log image is) (lasts log image is) (commutes log image is) h)),
     )
 
 pub least_ends_there : LeastEndsThere

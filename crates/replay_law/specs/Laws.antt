@@ -1,5 +1,5 @@
 -- What the replays of an orderly log have in common.
-use Rattle.std.specs.Prelude.{ℕ, ◌≡◌, List, length, Option, Some}
+use Rattle.std.specs.Prelude.{ℕ, ◌≡◌, ◌≢◌, ◌==◌, List, filter, length, Option, Some}
 use Rattle.log_entry.specs.declared.log.Log.{Log}
 use Rattle.elf_image.specs.Image.{Image, IsWhole}
 use Rattle.flat_machine.specs.State.{FlatState, flat_at_start}
@@ -8,7 +8,7 @@ use Rattle.orders_law.specs.Orders.{IsLeast}
 use Rattle.order_rules.specs.Orderly.{IsOrderly}
 use Rattle.replay_model.specs.Board.{board}
 use Rattle.replay_model.specs.State.{Replay, start}
-use Rattle.replay_model.specs.Items.{IsFullOrder, step, story}
+use Rattle.replay_model.specs.Items.{Obeys, IsFullOrder, step, story}
 use Rattle.replay_model.specs.Outcome.{Outcome, IsOutcome, outcome_at}
 use Rattle.replay_law.specs.Atomics.{atomics_along}
 
@@ -25,6 +25,19 @@ first_flat log image = flat_at_start image (length log.streams)
 abbrev pub first_replay : Log → Image → Replay FlatState
 first_replay log image = start log (first_flat log image)
 
+-- where an order has led and two harts can go, each still makes its item after the other, and the two ways meet
+abbrev pub ItemsCommute : Type 0
+ItemsCommute = (log : Log) (image : Image) (order : List ℕ) (s a b : Replay FlatState) (e f : Option (List Step)) (g h : ℕ) → IsReplayable log image → Obeys board log (first_replay log image) order s
+    → g ≢ h → step board log g s ≡ Some (a, e) → step board log h s ≡ Some (b, f)
+    → (t : Replay FlatState) × (step board log h a ≡ Some (t, f)) × (step board log g b ≡ Some (t, e))
+
+-- two orders that obey the log, in which each hart goes equally often, lead to one state, with the same moves of each hart
+abbrev pub EqualSharesAgree : Type 0
+EqualSharesAgree = (log : Log) (image : Image) (order other : List ℕ) (s t : Replay FlatState) → IsReplayable log image
+    → (one : Obeys board log (first_replay log image) order s) (two : Obeys board log (first_replay log image) other t)
+    → ((h : ℕ) → length (filter (λ g. g == h) order) ≡ length (filter (λ g. g == h) other))
+    → (s ≡ t) × ((h : ℕ) → story board log h one.0 ≡ story board log h two.0)
+
 -- any two full orders that obey the log end in one state, with the same moves of each hart
 abbrev pub AllOrdersAgree : Type 0
 AllOrdersAgree = (log : Log) (image : Image) (order other : List ℕ) (s t : Replay FlatState) → IsReplayable log image
@@ -36,6 +49,10 @@ abbrev pub AtomicsAgree : Type 0
 AtomicsAgree = (log : Log) (image : Image) (order other : List ℕ) (s t : Replay FlatState) (word : ℕ) → IsReplayable log image
     → IsFullOrder board log (first_replay log image) order s → IsFullOrder board log (first_replay log image) other t
     → atomics_along word log (first_replay log image) order ≡ atomics_along word log (first_replay log image) other
+
+-- there is a full order
+abbrev pub FullOrderIsThere : Type 0
+FullOrderIsThere = (log : Log) (image : Image) → IsReplayable log image → (order : List ℕ) × ((s : Replay FlatState) × IsFullOrder board log (first_replay log image) order s)
 
 -- where there is a full order, the least order is one too, and it ends in the same state
 abbrev pub LeastEndsThere : Type 0

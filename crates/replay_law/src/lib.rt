@@ -2,13 +2,29 @@
 //! promise the laws.
 #![tactic(auto)]
 
-ghost use Rattle.replay_law.specs.Laws.{AllOrdersAgree, AtomicsAgree, LeastEndsThere, OrdersTellOutcome};
+ghost use Rattle.replay_law.specs.Laws.{ItemsCommute, EqualSharesAgree, AllOrdersAgree, AtomicsAgree, FullOrderIsThere, LeastEndsThere, OrdersTellOutcome};
+
+/// Two harts that can go at a state of a replay come to one state, either first.
+pub fn items_commute()
+    ensures { ItemsCommute }
+{}
+
+/// Two orders that obey an orderly log, in which each hart goes equally often, lead to one state, with the same moves of
+/// each hart.
+pub fn equal_shares_agree()
+    ensures { EqualSharesAgree }
+{}
 
 /// Any two full orders that obey an orderly log end in one state, with the same moves of each hart and the same atomic
 /// moves on each word.
 pub fn all_orders_agree()
     ensures state { AllOrdersAgree }
     ensures atomics { AtomicsAgree }
+{}
+
+/// There is a full order that obeys an orderly log.
+pub fn full_order_is_there()
+    ensures { FullOrderIsThere }
 {}
 
 /// Where there is a full order, the least order is one too, and the outcome is read off the end of any.

@@ -1,0 +1,5 @@
+use Rattle.replay_law.proofs.Ending.{full_order_is_there}
+use Rattle.replay_law.proofs.full_order_is_there.Goals as goal
+
+pub returns : goal.returns
+returns c = full_order_is_there
