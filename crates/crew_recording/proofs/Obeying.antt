@@ -1,11 +1,14 @@
 -- The items of a recording are those of its log, in their order.
-use Rattle.std.proofs.Common.{◌≡◌, ◌≢◌, ℕ, ◌+◌, ◌<◌, ◌≤◌, ◌==◌, Bool, true, false, not, ◌⊎◌, List, [], ◌∷◌, ◌++◌, length, map, Option, Some, None, slice_get, slice_index, refl, sym, ap, ap₂, ◌∙◌, subst, inl, inr, ⊎_elim, arith, if◌then◌else◌, append_assoc, append-nil, unwrap_or}
+use Rattle.std.proofs.Common.{◌≡◌, ◌≢◌, ℕ, zero, suc, ◌+◌, ◌<◌, ◌≤◌, ◌==◌, ◌&&◌, Bool, true, false, not, ◌⊎◌, List, [], ◌∷◌, ◌++◌, length, map, Option, Some, None, slice_get, slice_index, refl, sym, ap, ap₂, ◌∙◌, subst, inl, inr, ⊎_elim, arith, if◌then◌else◌, append_assoc, append-nil, unwrap_or}
+use Rattle.std.specs.List.{list_all, enumerate_from}
 use Rattle.std.specs.Option.{option_map}
+use Rattle.std.proofs.lemmas.List.FromFn.{length-enumerate_from}
 use Rattle.std.proofs.lemmas.Option.{same_Some}
 use Rattle.std.proofs.lemmas.Bool.{eq-eqb, ne_eqb}
 use Rattle.std.proofs.lemmas.Bool.Decides.{eqb_tells, leb_tells}
 use Rattle.std.proofs.lemmas.List.{length_push}
-use Rattle.orders_law.specs.Orders.{Leads, IsFull, IsOver}
+use Rattle.std.proofs.lemmas.List.Folds.{list_all-append}
+use Rattle.orders_law.specs.Orders.{below, Leads, IsFull, IsOver}
 use Rattle.rv_words.specs.declared.shared.Cause.{Cause}
 use Rattle.log_entry.specs.declared.log.Entry.{Entry}
 use Rattle.log_entry.specs.declared.log.Entry.TheVariants as entries
@@ -14,11 +17,21 @@ use Rattle.log_entry.specs.Parts.{count_of, is_end}
 use Rattle.order_rules.specs.Cursor.{first_left}
 use Rattle.replay_model.specs.Flat.{Flat}
 use Rattle.replay_model.specs.State.{Replay}
-use Rattle.replay_model.specs.Items.{Item, Ended, Move, Makes, Verdict, HasEnded, Holds, CanGo, HasDiverged, item_at, verdict_on, made, told_of, goes, next_item, step}
+use Rattle.replay_model.specs.Items.{Item, Ended, Move, Makes, Verdict, HasEnded, Holds, CanGo, HasDiverged, item_at, verdict_on, made, told_of, goes, next_item, verdict, step}
+use Rattle.replay_model.specs.Outcome.{is_ended, all_ended}
 use Rattle.solo_recording.proofs.Prefix.{at_snoc, at_front, at_end}
 use Rattle.crew_recording.specs.Recording.{Recording, IsSteady, IsRecorded, Records, Stands, with_item, stream_in, log_of_recording}
 use Rattle.crew_recording.proofs.Streams.{stream_here, stream_there, ended_at, ended_beyond}
 use Rattle.crew_recording.proofs.Going.{IsTidy, by_item, moves, tidy_item}
+
+pub map_size : {A B : Type 0} (f : A → B) (xs : List A) → length (map f xs) ≡ length xs
+map_size f [] = refl
+map_size f (x ∷ xs) = ap suc (map_size f xs)
+
+-- a test that every lesser number passes
+pub all_below : (test : ℕ → Bool) (n : ℕ) → ((h : ℕ) → h < n → test h ≡ true) → list_all test (below n) ≡ true
+all_below test zero each = refl
+all_below test (suc n) each = list_all-append test (below n) (n ∷ []) ∙ ap₂ (λ a b. a && (b && true)) (all_below test n (λ h l. each h (omega (arith, l)))) (each n (omega arith))
 
 module _ {S V : Type 0} (flat : Flat S V) (harts : ℕ) (Good : S → Type 0) (steady : IsSteady flat harts Good) where
   pub tidy_all : (r s : Recording S) (items : List (ℕ × Item)) → Records flat r items s → IsTidy flat harts Good steady r → IsTidy flat harts Good steady s
@@ -171,6 +184,12 @@ module _ {S V : Type 0} (flat : Flat S V) (harts : ℕ) (Good : S → Type 0) (s
     stops a h item Holds none = refl
     stops a h item (HasDiverged rule) none = refl
 
+    -- at its end every hart has its End before it
+    last_is : (s : Recording S) (h : ℕ) → IsTidy flat harts Good steady s → h < harts → next_item flat (log_to s) s.at h ≡ Ended
+    last_is s h tidy l =
+        ap (item_at (flat.count s.at.flat h)) (first_is s s h tidy l tidy.streams ∙ at_end (stream_in s.streams h) (entries.End (flat.count s.at.flat h)))
+        ∙ ap (λ b. if not b then Move else Ended) (eq-eqb (flat.count s.at.flat h) (flat.count s.at.flat h) refl)
+
     -- at its end no hart can go
     over : (s : Recording S) → IsTidy flat harts Good steady s → IsOver (step flat (log_to s)) s.at
     over s tidy h = elim (leb_tells harts h) [
@@ -178,10 +197,18 @@ module _ {S V : Type 0} (flat : Flat S V) (harts : ℕ) (Good : S → Type 0) (s
           ap (λ i. goes flat s.at h i (verdict_on flat s.at h i))
           (ap (λ o. item_at (flat.count s.at.flat h) (slice_get (unwrap_or o []) (slice_index s.at.cursor.places h))) (ended_beyond (λ k. flat.count s.at.flat k) 0 s.streams h (let a = tidy.streams in omega (arith, a, beyond))))
           ∙ stops s.at h Move (verdict_on flat s.at h Move) (ap (option_map (λ f. record s.at { flat = f })) (steady.no_more s.at.flat h tidy.good beyond))
-      | inr (f, n) ↦
-          ap (λ i. goes flat s.at h i (verdict_on flat s.at h i)) (ap (item_at (flat.count s.at.flat h)) (first_is s s h tidy (omega (arith, n)) tidy.streams ∙ at_end (stream_in s.streams h) (entries.End (flat.count s.at.flat h)))
-          ∙ ap (λ b. if not b then Move else Ended) (eq-eqb (flat.count s.at.flat h) (flat.count s.at.flat h) refl))
+      | inr (f, n) ↦ ap (λ i. goes flat s.at h i (verdict_on flat s.at h i)) (last_is s h tidy (omega (arith, n)))
     ]
+
+    -- and every hart has ended
+    all_end : (s : Recording S) → IsTidy flat harts Good steady s → all_ended flat (log_to s) s.at ≡ true
+    all_end s tidy = all_below (λ h. is_ended (verdict flat (log_to s) s.at h)) (length (log_to s).streams)
+        (λ h l. ap (λ i. is_ended (verdict_on flat s.at h i)) (last_is s h tidy (let a = tidy.streams in let z = log_size in omega (arith, l, a, z)))) where
+          log_size : length (log_to s).streams ≡ length s.streams
+          log_size = map_size _ (enumerate_from 0 s.streams) ∙ length-enumerate_from 0 s.streams
+
+    pub ends : (r s : Recording S) (items : List (ℕ × Item)) → Records flat r items s → IsTidy flat harts Good steady r → all_ended flat (log_to s) s.at ≡ true
+    ends r s items is tidy = all_end s (tidy_all r s items is tidy)
 
     pub full : (r s : Recording S) (items : List (ℕ × Item)) (is : Records flat r items s) → IsTidy flat harts Good steady r
         → (made : List (ℕ × Option V)) × (map (λ (m : ℕ × Option V). m.0) made ≡ map (λ (x : ℕ × Item). x.0) items) × IsFull (step flat (log_to s)) r.at made s.at

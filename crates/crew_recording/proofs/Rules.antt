@@ -21,7 +21,8 @@ use Rattle.solo_recording.proofs.Rules.{lt_false, and_false, or_none, some_and_f
 use Rattle.crew_recording.specs.Recording.{Recording, IsSteady, stream_in, log_of_recording}
 use Rattle.crew_recording.specs.Allowed.{IsTimed}
 use Rattle.crew_recording.proofs.Streams.{ended_at, ended_beyond}
-use Rattle.crew_recording.proofs.Steady.{map_size, within}
+use Rattle.crew_recording.proofs.Obeying.{map_size}
+use Rattle.crew_recording.proofs.Steady.{within}
 use Rattle.crew_recording.proofs.Single.{IsWholeStream, whole, o1_kept, o2_kept, o3_kept, o4_kept}
 use Rattle.crew_recording.proofs.Numbering.{At, IsNumbered, many_ended, found_in_all, numbers_right}
 use Rattle.crew_recording.proofs.Ordered.{IsOrdered}

@@ -19,7 +19,7 @@ use Rattle.crew_recording.specs.Recording.{Recording, IsSteady, first_recording,
 use Rattle.crew_recording.specs.Laws.{IsBoard, RunsAreObeyed}
 use Rattle.crew_recording.proofs.Streams.{set_here, set_size, index_is, index_there}
 use Rattle.crew_recording.proofs.Going.{IsTidy}
-use Rattle.crew_recording.proofs.Obeying.{tidy_all, full}
+use Rattle.crew_recording.proofs.Obeying.{map_size, tidy_all, full, ends}
 
 pub bound_to : {A B : Type 0} (f : A → Option B) (o : Option A) (b : B) → option_and_then f o ≡ Some b → (a : A) × (o ≡ Some a) × (f a ≡ Some b)
 bound_to f None b e = absurd (none-some _ e)
@@ -32,10 +32,6 @@ chosen false v t e = same_Some _ _ e
 pub unless : {A : Type 0} (b : Bool) (o : Option A) (t : A) → (if b then None else o) ≡ Some t → o ≡ Some t
 unless true o t e = absurd (none-some _ e)
 unless false o t e = e
-
-pub map_size : {A B : Type 0} (f : A → B) (xs : List A) → length (map f xs) ≡ length xs
-map_size f [] = refl
-map_size f (x ∷ xs) = ap suc (map_size f xs)
 
 pub within : {X : Type 0} (xs : List X) (i : ℕ) (x : X) → slice_get xs i ≡ Some x → i < length xs
 within [] i x e = absurd (none-some _ e)
@@ -149,6 +145,8 @@ pub runs_are_obeyed : RunsAreObeyed
 runs_are_obeyed pages limit harts image cause first items r on is =
     let begin = first_recording pages harts first in
     let tidy = first_tidy pages harts first on in
-    let size : length (ended_streams board r) ≡ harts = ended_size r ∙ (tidy_all board harts (IsBoard harts) (board_steady harts) begin r items is tidy).streams in
-    subst (λ n. IsFullOrder board (log_of_recording board pages limit image cause r) (first_recording pages n first).at (map (λ (x : ℕ × Item). x.0) items) r.at) (sym size)
-    (full board harts (IsBoard harts) (board_steady harts) pages limit image cause begin r items is tidy)
+    let size : length (ended_streams board r) ≡ harts = ended_size r ∙ (tidy_all board harts (IsBoard harts) (board_steady harts) begin r items is tidy).streams in (
+      subst (λ n. IsFullOrder board (log_of_recording board pages limit image cause r) (first_recording pages n first).at (map (λ (x : ℕ × Item). x.0) items) r.at) (sym size)
+          (full board harts (IsBoard harts) (board_steady harts) pages limit image cause begin r items is tidy),
+      ends board harts (IsBoard harts) (board_steady harts) pages limit image cause begin r items is tidy,
+    )

@@ -42,7 +42,8 @@ use Rattle.crew_recording.specs.Recording.{IsSteady}
 use Rattle.crew_recording.specs.Allowed.{IsTimed}
 use Rattle.crew_recording.proofs.Whole.{board_timed}
 use Rattle.crew_recording.proofs.Streams.{set_here, set_there}
-use Rattle.crew_recording.proofs.Steady.{map_size, replicate_size, no_place, within, bound_to, chosen, unless, leaves, board_steady}
+use Rattle.crew_recording.proofs.Obeying.{map_size}
+use Rattle.crew_recording.proofs.Steady.{replicate_size, no_place, within, bound_to, chosen, unless, leaves, board_steady}
 use Rattle.order_rules.specs.Orderly.{IsOrderly}
 use Rattle.replay_model.specs.State.{Replay, start}
 use Rattle.replay_model.specs.Items.{IsFullOrder}

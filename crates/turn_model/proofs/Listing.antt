@@ -12,8 +12,8 @@ use Rattle.replay_model.specs.State.{Replay, start}
 use Rattle.replay_model.specs.Items.{Move, goes, verdict_on, IsFullOrder, step}
 use Rattle.replay_model.specs.Journal.{order_of}
 use Rattle.replay_model.proofs.Driving.{mapped}
-use Rattle.crew_recording.proofs.Obeying.{full}
-use Rattle.crew_recording.proofs.Steady.{replicate_size, map_size, bound_to}
+use Rattle.crew_recording.proofs.Obeying.{map_size, full, ends}
+use Rattle.crew_recording.proofs.Steady.{replicate_size, bound_to}
 use Rattle.crew_recording.specs.Recording.{Recording, first_recording}
 use Rattle.crew_recording.specs.Allowed.{IsPolled}
 use Rattle.crew_recording.proofs.Fitting.{FitsAt}
