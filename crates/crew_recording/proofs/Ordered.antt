@@ -76,7 +76,7 @@ module _ {S V : Type 0} (flat : Flat S V) (harts : ℕ) (Good : S → Type 0) (s
           let l = timed.touch_time s.flat f h u good is in
           let k = same_Some _ _ e in let a = l.0 in let b = l.1 in let z = ap flat.time same in (omega (arith, a, k), omega (arith, b, k, z))
 
-  did_entry : (s t : Replay S) (h : ℕ) (e : Entry) → Good s.flat → effect flat s h e ≡ Some t → Did s t h e
+  pub did_entry : (s t : Replay S) (h : ℕ) (e : Entry) → Good s.flat → effect flat s h e ≡ Some t → Did s t h e
   did_entry s t h (entries.Gain count page seq mode waits) good is = did_nothing s t h (entries.Gain count page seq mode waits) refl refl (sym (ap (λ (x : Replay S). x.flat) (same_Some _ _ is)))
   did_entry s t h (entries.Yield count page seq left) good is = did_yield s t h count page seq left (ends_reservation flat s h page) good is
   did_entry s t h (entries.Poll count ord time bits) good is =

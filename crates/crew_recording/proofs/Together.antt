@@ -1,6 +1,5 @@
 -- Items that are made and allowed, one after another; and what they leave of other harts.
-use Rattle.std.proofs.Common.{◌≡◌, ◌≢◌, ℕ, ◌+◌, List, [], ◌∷◌, ◌++◌, map, refl, sym, ap, ◌∙◌, subst, arith}
-use Rattle.log_entry.specs.declared.log.Entry.{Entry}
+use Rattle.std.proofs.Common.{◌≡◌, ◌≢◌, ℕ, List, [], ◌∷◌, ◌++◌, map, sym, ap, ◌∙◌, subst}
 use Rattle.flat_machine.specs.declared.act.Act.TheVariants.{Run}
 use Rattle.replay_model.specs.Flat.{Flat}
 use Rattle.replay_model.specs.Items.{Item, Ended, Move, Makes}

@@ -44,14 +44,14 @@ use Rattle.crew_recording.proofs.Whole.{board_timed}
 use Rattle.crew_recording.proofs.Streams.{set_here, set_there}
 use Rattle.crew_recording.proofs.Obeying.{map_size}
 use Rattle.crew_recording.proofs.Steady.{replicate_size, no_place, within, bound_to, chosen, unless, leaves, board_steady}
-use Rattle.order_rules.specs.Orderly.{IsOrderly}
-use Rattle.replay_model.specs.State.{Replay, start}
-use Rattle.replay_model.specs.Items.{IsFullOrder}
-use Rattle.turn_model.specs.Board.{Terms}
-use Rattle.turn_model.specs.Lists.{Recorded}
+use Rattle.replay_model.specs.State.{start}
+use Rattle.replay_model.specs.Outcome.{cause_agrees}
+use Rattle.turn_model.specs.Board.{Board, Outside, Terms, log_of}
+use Rattle.turn_model.specs.Lists.{Recorded, comes_to}
 use Rattle.turn_model.specs.Machine.{board_machine}
-use Rattle.turn_model.specs.Faithful.{IsFaithful, AllBelow}
+use Rattle.turn_model.specs.Faithful.{IsFaithful, AllBelow, is_access}
 use Rattle.turn_model.specs.Laws.{IsBoard, IsRight, RecordingsAreRight, RoundsAreRight}
+use Rattle.turn_model.proofs.Reaching.{IsReached, reached_orderly, reached_full, reached_done}
 use Rattle.turn_model.proofs.Listing.{recorded}
 use Rattle.turn_model.proofs.Rounding.{recorded_in_rounds}
 
@@ -236,6 +236,19 @@ poll_tells s t h time is =
     let x = bound_to (poll_made s h time) (slice_get s.harts h) t is in
     first_false (is_some s.devices.stop) (nat_lt time s.devices.mtime) (not_chosen (is_some s.devices.stop || nat_lt time s.devices.mtime) _ t x.2)
 
+-- a Touch alone sets stop
+stop_stays : (s t : FlatState) (act : Act) → is_access act ≡ false → next act s ≡ Some t → board.is_stopped t ≡ board.is_stopped s
+stop_stays s t (Run h) plain is =
+    let x = bound_to (λ x. ran s h x (next_move x s.memory)) (slice_get s.harts h) t is in
+    sym (ap (λ (u : FlatState). is_some u.devices.stop) (chosen (is_some (access_of (need_of (next_move x.0 s.memory)))) _ t x.2))
+stop_stays s t (Touch h input) plain is = absurd (true≢false plain)
+stop_stays s t (Poll h time) plain is =
+    let x = bound_to (poll_made s h time) (slice_get s.harts h) t is in
+    sym (ap (λ (u : FlatState). is_some u.devices.stop) (chosen (is_some s.devices.stop || nat_lt time s.devices.mtime) _ t x.2))
+stop_stays s t (Lose h) plain is =
+    let x = mapped (lost s h) (slice_get s.harts h) t is in
+    sym (ap (λ (u : FlatState). is_some u.devices.stop) x.2)
+
 board_steadier : (harts pages : ℕ) → IsSteady board harts (IsBoard harts pages)
 board_steadier harts pages = record {
   lasts = λ s t act on is. let l = leaves s t act harts (plain s on) is in record { harts_size = l.harts ∙ on.harts_size; counts_size = l.counts ∙ on.counts_size; pages_are = pages_kept pages s t act on.pages_are is };
@@ -267,6 +280,7 @@ board_faithful harts pages = record {
   timed = board_timelier harts pages;
   inside = λ s h on. need_of_hart pages s.memory (slice_get s.harts h) (λ x e. on.pages_are h x e);
   touches = touch_tells;
+  stops = stop_stays;
   polls = poll_tells;
 }
 
@@ -280,26 +294,37 @@ start_is_board image harts = record {
   pages_are = λ h x e. starts_with image.pages (λ id. hart_at_start id harts image.pages image.entry) (range_with_len 0 harts) h x (λ id. refl) e;
 }
 
--- what is right of a recording
-all_right : (terms : Terms) (image : Image) (harts : ℕ) (r : Recorded FlatState)
-    → IsOrderly r.log × ((end : Replay FlatState) × (end.flat ≡ r.ended) × IsFullOrder board r.log (start r.log (flat_at_start image harts)) (order_of r.journal) end) → IsRight (flat_at_start image harts) r
-all_right terms image harts r both = record {
-  orderly = both.0;
-  end = both.1.0;
-  ended = both.1.1;
-  obeyed = both.1.2;
-  acts = orders_drive r.log (start r.log (flat_at_start image harts)) both.1.0 (order_of r.journal) (both.1.2.0, both.1.2.1, both.1.2.2.leads) ∙ ap (λ t. Some t) both.1.1;
-}
-
 start_with : (terms : Terms) (image : Image) (harts : ℕ) → terms.pages ≡ image.pages → IsBoard harts terms.pages (flat_at_start image harts)
 start_with terms image harts pages = subst (λ p. IsBoard harts p (flat_at_start image harts)) (sym pages) (start_is_board image harts)
 
+module _ (terms : Terms) (image : Image) (harts : ℕ) (outside : Outside) (pages : terms.pages ≡ image.pages) where
+  abbrev ReachedB : Board FlatState → Type 0
+  ReachedB d = IsReached board_machine terms harts (IsBoard harts terms.pages) (board_faithful harts terms.pages) (flat_at_start image harts) outside (start_with terms image harts pages) (no_place harts) d
+
+  -- what is right of a recording
+  all_right : (d : Board FlatState) → ReachedB d → cause_agrees board (log_of board_machine terms d) d.at.flat ≡ true → IsRight (flat_at_start image harts) (comes_to board_machine terms d)
+  all_right d reached agrees =
+      let first = flat_at_start image harts in
+      let log = log_of board_machine terms d in
+      let full = reached_full board_machine terms harts (IsBoard harts terms.pages) (board_faithful harts terms.pages) first outside (start_with terms image harts pages) (no_place harts) d reached in
+      record {
+        orderly = reached_orderly board_machine terms harts (IsBoard harts terms.pages) (board_faithful harts terms.pages) first outside (start_with terms image harts pages) (no_place harts) d reached;
+        end = d.at;
+        ended = refl;
+        obeyed = full;
+        done = reached_done board_machine terms harts (IsBoard harts terms.pages) (board_faithful harts terms.pages) first outside (start_with terms image harts pages) (no_place harts) d reached agrees;
+        acts = orders_drive log (start log first) d.at (order_of d.journal) (full.0, full.1, full.2.leads);
+      }
+
+  right_where_reached : (r : Recorded FlatState) → (d : Board FlatState) × ReachedB d × (cause_agrees board (log_of board_machine terms d) d.at.flat ≡ true) × (comes_to board_machine terms d ≡ r) → IsRight (flat_at_start image harts) r
+  right_where_reached r reached = subst (IsRight (flat_at_start image harts)) reached.3 (all_right reached.0 reached.1 reached.2)
+
 pub recordings_are_right : RecordingsAreRight
 recordings_are_right terms image harts outside list r pages of is =
-    all_right terms image harts r
-    (recorded board_machine terms harts (IsBoard harts terms.pages) (board_faithful harts terms.pages) (flat_at_start image harts) outside (start_with terms image harts pages) (no_place harts) list r of is)
+    right_where_reached terms image harts outside pages r
+    (recorded board_machine terms harts (IsBoard harts terms.pages) (board_faithful harts terms.pages) (flat_at_start image harts) outside (start_with terms image harts pages) (no_place harts) refl list r of is)
 
 pub rounds_are_right : RoundsAreRight
 rounds_are_right terms image harts outside r pages is =
-    all_right terms image harts r
-    (recorded_in_rounds board_machine terms harts (IsBoard harts terms.pages) (board_faithful harts terms.pages) (flat_at_start image harts) outside (start_with terms image harts pages) (no_place harts) r is)
+    right_where_reached terms image harts outside pages r
+    (recorded_in_rounds board_machine terms harts (IsBoard harts terms.pages) (board_faithful harts terms.pages) (flat_at_start image harts) outside (start_with terms image harts pages) (no_place harts) refl r is)

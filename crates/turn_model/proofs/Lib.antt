@@ -1,7 +1,12 @@
 pub mod WorkedRecordings
 pub mod Ways
 pub mod Making
+pub mod Walking
+pub mod Leaving
 pub mod Turning
+pub mod Closing
+pub mod Reaching
+pub mod Ending
 pub mod Listing
 pub mod Rounding
 pub mod BoardFacts

@@ -1,35 +1,29 @@
--- Recordings by lists of turns: their logs are orderly, and their journals are full orders of them.
-use Rattle.std.proofs.Common.{◌≡◌, ℕ, zero, suc, ◌+◌, ◌-◌, ◌<◌, ◌≤◌, Bool, true, false, List, [], ◌∷◌, ◌++◌, length, map, min, replicate, Option, Some, None, slice_get, unwrap_or, refl, sym, ap, ◌∙◌, subst, arith, if◌then◌else◌}
-use Rattle.std.specs.Option.{option_map_or, option_and_then}
+-- Recordings by lists of turns.
+use Rattle.std.proofs.Common.{◌≡◌, ℕ, zero, suc, ◌<◌, ◌≤◌, ◌==◌, ◌||◌, Bool, true, false, List, [], ◌∷◌, ◌++◌, length, map, min, Option, Some, None, is_some, unwrap_or, inl, inr, refl, ap, ◌∙◌, subst, arith, if◌then◌else◌, true≢false}
+use Rattle.std.specs.List.{list_all}
+use Rattle.std.specs.Option.{option_and_then}
 use Rattle.std.proofs.Math.Nat.{sub-add-min_cancel}
-use Rattle.std.proofs.lemmas.Option.{none-some, same_Some}
+use Rattle.std.proofs.lemmas.Bool.{eqb-true}
+use Rattle.std.proofs.lemmas.Option.{same_Some}
+use Rattle.rv_words.specs.declared.shared.Cause.{Cause}
 use Rattle.rv_words.specs.declared.shared.Cause.TheVariants.{Cut}
-use Rattle.log_entry.specs.declared.log.Entry.{Entry}
-use Rattle.orders_law.specs.Orders.{below, IsFull}
-use Rattle.order_rules.specs.Orderly.{IsOrderly}
-use Rattle.replay_model.specs.Holders.{nobody}
-use Rattle.replay_model.specs.State.{Replay, start}
-use Rattle.replay_model.specs.Items.{Move, goes, verdict_on, IsFullOrder, step}
-use Rattle.replay_model.specs.Journal.{order_of}
+use Rattle.orders_law.specs.Orders.{below}
+use Rattle.replay_model.specs.State.{Replay}
+use Rattle.replay_model.specs.Outcome.{cause_agrees}
 use Rattle.replay_model.proofs.Driving.{mapped}
-use Rattle.crew_recording.proofs.Obeying.{map_size, full, ends}
-use Rattle.crew_recording.proofs.Steady.{replicate_size, bound_to}
-use Rattle.crew_recording.specs.Recording.{Recording, first_recording}
-use Rattle.crew_recording.specs.Allowed.{IsPolled}
-use Rattle.crew_recording.proofs.Fitting.{FitsAt}
-use Rattle.crew_recording.proofs.Ordered.{IsOrdered}
-use Rattle.crew_recording.proofs.Together.{Made}
-use Rattle.crew_recording.proofs.Whole.{first_ordered, first_fits, orderly}
-use Rattle.std.specs.List.{enumerate_from}
-use Rattle.std.proofs.lemmas.List.FromFn.{length-enumerate_from}
+use Rattle.crew_recording.proofs.Steady.{bound_to}
 use Rattle.turn_model.specs.Machine.{Machine}
-use Rattle.turn_model.specs.Board.{Board, Order, Go, Hold, Rest, Terms, Outside, harts, stream, last_order, board_at_start, closes, is_over, log_of, ended_streams}
+use Rattle.turn_model.specs.Board.{Board, Terms, Outside, harts, closes, is_at_limit, is_over, log_of}
 use Rattle.turn_model.specs.Turn.{turn}
-use Rattle.turn_model.specs.Lists.{Recorded, leg, leg_by, whole_leg, listed, cut, comes_to, closed_after, recorded_by_list}
+use Rattle.turn_model.specs.Lists.{Recorded, whole_leg, listed, comes_to, closed_after, recorded_by_list}
 use Rattle.turn_model.specs.Faithful.{IsFaithful}
 use Rattle.turn_model.specs.Laws.{OfHarts}
 use Rattle.turn_model.proofs.Ways.{recording_of}
-use Rattle.turn_model.proofs.Turning.{Sound, Orders, CanMove, Goes, stays, then_goes, sound_goes, turn_goes}
+use Rattle.turn_model.proofs.Turning.{CanMove}
+use Rattle.turn_model.proofs.Leaving.{after_runs}
+use Rattle.turn_model.proofs.Closing.{ClosedSo}
+use Rattle.turn_model.proofs.Reaching.{Closes, IsDone, begin, can_leg, no_leg, IsReached, reached_sound, reached_begin, reached_aside, reached_turn, closing_turn, closing_begin, done_turn, shut_turn}
+use Rattle.turn_model.proofs.Ending.{each_passes, agrees, cut_agrees}
 
 of_harts_more : (n : ℕ) (xs : List ℕ) (h : ℕ) → OfHarts n (map (λ (g : ℕ). (g, 0)) xs) → h < n → OfHarts n (map (λ (g : ℕ). (g, 0)) (xs ++ h ∷ []))
 of_harts_more n [] h all l = (l, tt)
@@ -39,117 +33,117 @@ all_below : (n k : ℕ) → k ≤ n → OfHarts n (map (λ (g : ℕ). (g, 0)) (b
 all_below n zero l = tt
 all_below n (suc k) l = of_harts_more n (below k) k (all_below n k (omega (arith, l))) (omega (arith, l))
 
-abbrev no_streams : ℕ → List (List Entry)
-no_streams n = replicate n []
-
-abbrev no_orders : ℕ → List (Option Order)
-no_orders n = replicate n None
-
-leg_short : {S V : Type 0} (machine : Machine S V) (terms : Terms) (h most : ℕ) (s : Replay S) → leg machine terms h most s ≤ most
-leg_short machine terms h zero s = omega arith
-leg_short {S} {V} machine terms h (suc most) s = by (goes machine.flat s h Move (verdict_on machine.flat s h Move)) (λ m. leg_short machine terms h most m) where
-  by : (o : Option (Replay S × Option V)) → ((m : Replay S) → leg machine terms h most m ≤ most) → option_map_or (λ m. suc (leg machine terms h most m.0)) o 0 ≤ suc most
-  by None f = omega arith
-  by (Some m) f = let l = f m.0 in omega (arith, l)
-
 min_least : (a b i : ℕ) → i < min a b → i < b
 min_least a b i l = let e = sub-add-min_cancel a b in omega (arith, l, e)
 
-no_order : (n g : ℕ) (order : Order) → unwrap_or (slice_get (no_orders n) g) None ≡ Some order → ⊥
-no_order zero g order e = none-some _ e
-no_order (suc n) zero order e = none-some _ e
-no_order (suc n) (suc g) order e = no_order n g order e
+min_none : (a b : ℕ) → b ≡ 0 → min a b ≡ 0
+min_none a b z = let e = sub-add-min_cancel a b in omega (arith, e, z)
 
-module _ {S V : Type 0} (machine : Machine S V) (terms : Terms) (many : ℕ) (Good : S → Type 0) (faithful : IsFaithful machine.flat many terms.pages Good) where
-  abbrev pub SoundBoard : Board S → Type 0
-  SoundBoard b = Sound machine terms many terms.pages Good faithful b
+min_of_none : (b : ℕ) → min 0 b ≡ 0
+min_of_none b = let e = sub-add-min_cancel 0 b in omega (arith, e)
 
-  abbrev pub AsOrdered : Board S → Type 0
-  AsOrdered b = Orders machine terms many terms.pages Good faithful b
+neither : (a b : Bool) → (a || b) ≡ false → (a ≡ false) × (b ≡ false)
+neither true b e = absurd (true≢false e)
+neither false b e = (refl, e)
 
-  abbrev pub GoesTo : Board S → Board S → Type 0
-  GoesTo b c = Goes machine terms many terms.pages Good faithful b c
+nothing_in : {X : Type 0} (o : Option X) → is_some o ≡ false → o ≡ None
+nothing_in None e = refl
+nothing_in (Some x) e = absurd (true≢false e)
 
-  -- a hart makes no more moves than its last order lets it
-  pub can_leg : (h : ℕ) (b : Board S) → h < many → AsOrdered b → CanMove machine terms many terms.pages Good faithful h (whole_leg machine terms h b) (recording_of b)
-  can_leg h b inside orders i less = by (last_order b h) refl less where
-    by : (o : Option Order) → last_order b h ≡ o → i < leg_by machine terms h b o → (machine.flat.count b.at.flat h + i < terms.limit) × IsPolled (stream b h) (machine.flat.count b.at.flat h + i)
-    by None is l = absurd (omega (arith, l))
-    by (Some Rest) is l = absurd (omega (arith, l))
-    by (Some (Hold page g)) is l = absurd (omega (arith, l))
-    by (Some (Go until)) is l =
-        let short = leg_short machine terms h (until - machine.flat.count b.at.flat h) b.at in
-        orders h inside (Go until) is (machine.flat.count b.at.flat h + i) (omega arith) (omega (arith, l, short))
+module _ {S V : Type 0} (machine : Machine S V) (terms : Terms) (many : ℕ) (Good : S → Type 0) (faithful : IsFaithful machine.flat many terms.pages Good) (first : S) (outside : Outside) (good : Good first) (unmoved : (h : ℕ) → machine.flat.count first h ≡ 0) where
+  abbrev pub Reached : Board S → Type 0
+  Reached b = IsReached machine terms many Good faithful first outside good unmoved b
 
-  can_move : (h most : ℕ) (b : Board S) → h < many → AsOrdered b → CanMove machine terms many terms.pages Good faithful h (min most (whole_leg machine terms h b)) (recording_of b)
-  can_move h most b inside orders i less = can_leg h b inside orders i (min_least most (whole_leg machine terms h b) i less)
+  abbrev pub Closing : Board S → Type 0
+  Closing b = Closes machine terms many Good faithful b
 
-  listed_goes : (list : List (ℕ × ℕ)) (b c : Board S) → SoundBoard b → AsOrdered b → OfHarts many list → listed machine terms list b ≡ Some c → GoesTo b c × AsOrdered c
-  listed_goes [] b c sound orders of is = (
-    stays machine terms many terms.pages Good faithful b c (ap (λ (x : Board S). recording_of x) (same_Some _ _ is)) (sym (ap (λ (x : Board S). x.journal) (same_Some _ _ is))) (sym (ap (λ (x : Board S). x.orders) (same_Some _ _ is))),
-    subst AsOrdered (same_Some _ _ is) orders,
-  )
-  listed_goes (row ∷ list) b c sound orders of is =
-      let n = min row.1 (whole_leg machine terms row.0 b) in
-      let m = bound_to (listed machine terms list) (turn machine terms row.0 n b) c is in
-      let one = turn_goes machine terms many terms.pages Good faithful row.0 of.0 n b m.0 sound orders (can_move row.0 row.1 b of.0 orders) m.1 in
-      let rest = listed_goes list m.0 c (sound_goes machine terms many terms.pages Good faithful b m.0 sound one.0) one.1 of.1 m.2 in
-      (then_goes machine terms many terms.pages Good faithful b m.0 c one.0 rest.0, rest.1)
+  abbrev pub Done : Board S → Type 0
+  Done b = IsDone machine terms many Good faithful b
 
-  cut_goes : (b : Board S) → AsOrdered b → GoesTo b (cut machine terms b) × AsOrdered (cut machine terms b)
-  cut_goes b orders = by (is_over machine terms b) where
-    by : (x : Bool) → GoesTo b (if x then b else closes Cut b) × AsOrdered (if x then b else closes Cut b)
-    by true = (stays machine terms many terms.pages Good faithful b b refl refl refl, orders)
-    by false = (stays machine terms many terms.pages Good faithful b (closes Cut b) refl refl refl, λ g l order e. orders g l order e)
+  abbrev pub Agrees : Board S → Type 0
+  Agrees d = cause_agrees machine.flat (log_of machine terms d) d.at.flat ≡ true
 
-  closed_goes : (b c : Board S) → SoundBoard b → AsOrdered b → closed_after machine terms b ≡ Some c → GoesTo b c × AsOrdered c
-  closed_goes b c sound orders is =
-      let l = sound.ordered.tidy.streams in
-      let one = cut_goes b orders in
-      let rest = listed_goes (map (λ h. (h, 0)) (harts b)) (cut machine terms b) c (sound_goes machine terms many terms.pages Good faithful b (cut machine terms b) sound one.0) one.1 (all_below many (length b.streams) (omega (arith, l))) is in
-      (then_goes machine terms many terms.pages Good faithful b (cut machine terms b) c one.0 rest.0, rest.1)
+  abbrev Moves : ℕ → ℕ → Board S → Type 0
+  Moves h n b = CanMove machine terms many terms.pages Good faithful h n (recording_of b)
 
-  module _ (first : S) (outside : Outside) (good : Good first) (unmoved : (h : ℕ) → machine.flat.count first h ≡ 0) where
-    abbrev pub begin : Board S
-    begin = board_at_start terms many first outside
+  -- what each turn of a list keeps
+  listed_keeps : (P : Board S → Type 0) → ((h most : ℕ) (b c : Board S) → h < many → P b → turn machine terms h (min most (whole_leg machine terms h b)) b ≡ Some c → P c)
+      → (list : List (ℕ × ℕ)) (b c : Board S) → OfHarts many list → P b → listed machine terms list b ≡ Some c → P c
+  listed_keeps P turns [] b c of p is = subst P (same_Some _ _ is) p
+  listed_keeps P turns (row ∷ list) b c of p is =
+      let m = bound_to (listed machine terms list) (turn machine terms row.0 (min row.1 (whole_leg machine terms row.0 b)) b) c is in
+      listed_keeps P turns list m.0 c of.1 (turns row.0 row.1 b m.0 of.0 p m.1) m.2
 
-    -- the recording with which a board starts, with so many places
-    abbrev from : ℕ → Recording S
-    from k = record { at = record { flat = first; cursor = record { places = replicate k 0; numbers = replicate terms.pages 0; ordinal = 0 }; holders = nobody terms.pages k }; streams = replicate many [] }
+  can_move : (h most : ℕ) (b : Board S) → h < many → Reached b → Moves h (min most (whole_leg machine terms h b)) b
+  can_move h most b inside reached i less = can_leg machine terms many Good faithful h b inside reached.orders i (min_least most (whole_leg machine terms h b) i less)
 
-    begins : recording_of begin ≡ first_recording terms.pages many first
-    begins = ap from (replicate_size many [])
+  one_turn : (h most : ℕ) (b c : Board S) → h < many → Reached b × Closing b → turn machine terms h (min most (whole_leg machine terms h b)) b ≡ Some c → Reached c × Closing c
+  one_turn h most b c inside p is =
+      let n = min most (whole_leg machine terms h b) in
+      let can = can_move h most b inside p.0 in (
+        reached_turn machine terms many Good faithful first outside good unmoved h n b c inside p.0 can is,
+        closing_turn machine terms many Good faithful first outside good unmoved h n b c inside p.0 can (λ none. min_none most (whole_leg machine terms h b) (no_leg machine terms many Good faithful h b none)) is p.1,
+      )
 
-    pub begin_sound : SoundBoard begin
-    begin_sound = record {
-      ordered = subst (IsOrdered machine.flat many Good faithful.steady faithful.timed terms.pages terms.limit) (sym begins) (first_ordered machine.flat many Good faithful.steady faithful.timed terms.pages terms.limit first good unmoved);
-      fits = subst (λ (r : Recording S). FitsAt machine.flat many terms.pages r.at) (sym begins) (first_fits machine.flat many Good faithful.steady faithful.timed terms.pages terms.limit first good unmoved);
-      orders_size = replicate_size many None;
-    }
+  -- behind a board that is over
+  over_turn : (h most : ℕ) (b c : Board S) → h < many → Reached b × Closing b × Done b → turn machine terms h (min most (whole_leg machine terms h b)) b ≡ Some c → Reached c × Closing c × Done c
+  over_turn h most b c inside p is =
+      let one = one_turn h most b c inside (p.0, p.1) is in
+      (one.0, one.1, done_turn machine terms many Good faithful first outside good unmoved h (min most (whole_leg machine terms h b)) b c inside p.0 (can_move h most b inside p.0) is p.2)
 
-    pub begin_orders : AsOrdered begin
-    begin_orders g l order e = absurd (no_order many g order e)
+  pub is_done : (b : Board S) → Reached b → is_over machine terms b ≡ true → Done b
+  is_done b reached over = by b.closed refl over where
+    by : (o : Option Cause) → b.closed ≡ o → (is_some o || list_all (is_at_limit machine terms b) (harts b)) ≡ true → Done b
+    by (Some cause) is e = inl (cause, is)
+    by None is e =
+        let size = (reached_sound machine terms many Good faithful first outside good unmoved b reached).ordered.tidy.streams in
+        inr (λ g l. eqb-true (machine.flat.count b.at.flat g) terms.limit (each_passes (is_at_limit machine terms b) (length b.streams) e g (omega (arith, l, size))))
 
-    pub goes_orderly : (d : Board S) → GoesTo begin d → IsOrderly (log_of machine terms d)
-    goes_orderly d goes =
-        let made = subst (λ (r : Recording S). Made machine.flat terms.pages terms.limit r goes.items (recording_of d)) begins goes.made in
-        orderly machine.flat many Good faithful.steady faithful.timed terms.pages terms.limit first good unmoved terms.image (log_of machine terms d).cause goes.items (recording_of d) made.0 made.1
+  -- a board that is cut: turns without moves leave the flat state
+  abbrev CutAt : Replay S → Board S → Type 0
+  CutAt s b = Reached b × (b.closed ≡ Some Cut) × (b.at ≡ s)
 
-    pub goes_full : (d : Board S) → GoesTo begin d → IsFullOrder machine.flat (log_of machine terms d) (start (log_of machine terms d) first) (order_of d.journal) d.at
-    goes_full d goes =
-        let log = log_of machine terms d in
-        let f = full machine.flat many Good faithful.steady terms.pages terms.limit terms.image log.cause (recording_of begin) (recording_of d) goes.items goes.made.0 begin_sound.ordered.tidy in
-        let size : length (ended_streams machine terms d) ≡ many = map_size _ (enumerate_from 0 d.streams) ∙ length-enumerate_from 0 d.streams ∙ (sound_goes machine terms many terms.pages Good faithful begin d begin_sound goes).ordered.tidy.streams in
-        let alike : length (no_streams many) ≡ length (ended_streams machine terms d) = replicate_size many [] ∙ sym size in
-        (f.0, f.1 ∙ sym goes.order, subst (λ n. IsFull (step machine.flat log) (from n).at f.0 d.at) alike f.2)
+  cut_turns : (s : Replay S) (hs : List ℕ) (b c : Board S) → OfHarts many (map (λ (h : ℕ). (h, 0)) hs) → CutAt s b → listed machine terms (map (λ (h : ℕ). (h, 0)) hs) b ≡ Some c → CutAt s c
+  cut_turns s [] b c of p is = subst (CutAt s) (same_Some _ _ is) p
+  cut_turns s (h ∷ hs) b c of p is =
+      let n = min 0 (whole_leg machine terms h b) in
+      let m = bound_to (listed machine terms (map (λ (g : ℕ). (g, 0)) hs)) (turn machine terms h n b) c is in
+      let sound = reached_sound machine terms many Good faithful first outside good unmoved b p.0 in
+      let can = can_move h 0 b of.0 p.0 in
+      let shut = shut_turn machine terms many Good faithful h of.0 Cut (λ t. t ≡ s) n b m.0 sound can m.1 p.1
+      (λ d x. (after_runs machine terms many terms.pages Good faithful h n b.at d.at sound.ordered.tidy.good x.ran).none (min_of_none (whole_leg machine terms h b)) ∙ p.2) in
+      cut_turns s hs m.0 c of.1 (reached_turn machine terms many Good faithful first outside good unmoved h n b m.0 of.0 p.0 can m.1, shut.0, shut.1) m.2
 
-    pub recorded : (list : List (ℕ × ℕ)) (r : Recorded S) → OfHarts many list → recorded_by_list machine terms list begin ≡ Some r
-        → IsOrderly r.log × ((end : Replay S) × (end.flat ≡ r.ended) × IsFullOrder machine.flat r.log (start r.log first) (order_of r.journal) end)
-    recorded list r of is =
-        let d = mapped (comes_to machine terms) (option_and_then (closed_after machine terms) (listed machine terms list begin)) r is in
-        let c = bound_to (closed_after machine terms) (listed machine terms list begin) d.0 d.1 in
-        let one = listed_goes list begin c.0 begin_sound begin_orders of c.1 in
-        let two = closed_goes c.0 d.0 (sound_goes machine terms many terms.pages Good faithful begin c.0 begin_sound one.0) one.1 c.2 in
-        let all = then_goes machine terms many terms.pages Good faithful begin c.0 d.0 one.0 two.0 in
-        subst (λ (x : Recorded S). IsOrderly x.log × ((end : Replay S) × (end.flat ≡ x.ended) × IsFullOrder machine.flat x.log (start x.log first) (order_of x.journal) end)) d.2
-        (goes_orderly d.0 all, (d.0.at, refl, goes_full d.0 all))
+  closed_agrees : (b c : Board S) → Reached b → Closing b → closed_after machine terms b ≡ Some c → Reached c × Agrees c
+  closed_agrees b c reached closing is = by (is_over machine terms b) refl is where
+    of : OfHarts many (map (λ (h : ℕ). (h, 0)) (harts b))
+    of = let l = (reached_sound machine terms many Good faithful first outside good unmoved b reached).ordered.tidy.streams in all_below many (length b.streams) (omega (arith, l))
+
+    by : (x : Bool) → is_over machine terms b ≡ x → listed machine terms (map (λ (h : ℕ). (h, 0)) (harts b)) (if x then b else closes Cut b) ≡ Some c → Reached c × Agrees c
+    by true over is =
+        let p = listed_keeps (λ d. Reached d × Closing d × Done d) over_turn (map (λ (h : ℕ). (h, 0)) (harts b)) b c of (reached, closing, is_done b reached over) is in
+        (p.0, agrees machine terms many Good faithful c (reached_sound machine terms many Good faithful first outside good unmoved c p.0) p.1 p.2)
+    by false short is =
+        let both = neither (is_some b.closed) (list_all (is_at_limit machine terms b) (harts b)) short in
+        let none = nothing_in b.closed both.0 in
+        let cut_board = closes Cut b in
+        let reached' = reached_aside machine terms many Good faithful first outside good unmoved b cut_board reached refl refl refl (λ g l order e. reached.orders g l order e) in
+        let p = cut_turns b.at (harts b) cut_board c of (reached', ap (λ o. Some (unwrap_or o Cut)) none, refl) is in
+        let size = (reached_sound machine terms many Good faithful first outside good unmoved b reached).ordered.tidy.streams in (
+          p.0,
+          cut_agrees machine terms many Good faithful c (reached_sound machine terms many Good faithful first outside good unmoved c p.0) p.1 (ap (λ (s : Replay S). machine.flat.is_stopped s.flat) p.2 ∙ running none closing.closed)
+              (ap (λ (s : Replay S). list_all (λ h. machine.flat.count s.flat h == terms.limit) (below many)) p.2 ∙ subst (λ n. list_all (is_at_limit machine terms b) (below n) ≡ false) size both.1),
+        )
+      where
+        running : b.closed ≡ None → ClosedSo machine terms many terms.pages Good faithful b b.closed → machine.flat.is_stopped b.at.flat ≡ false
+        running none so = subst (ClosedSo machine terms many terms.pages Good faithful b) none so
+
+  pub recorded : machine.flat.is_stopped first ≡ false → (list : List (ℕ × ℕ)) (r : Recorded S) → OfHarts many list → recorded_by_list machine terms list (begin machine terms many Good faithful first outside good unmoved) ≡ Some r
+      → (d : Board S) × Reached d × Agrees d × (comes_to machine terms d ≡ r)
+  recorded running list r of is =
+      let b = begin machine terms many Good faithful first outside good unmoved in
+      let d = mapped (comes_to machine terms) (option_and_then (closed_after machine terms) (listed machine terms list b)) r is in
+      let c = bound_to (closed_after machine terms) (listed machine terms list b) d.0 d.1 in
+      let p = listed_keeps (λ x. Reached x × Closing x) one_turn list b c.0 of (reached_begin machine terms many Good faithful first outside good unmoved, closing_begin machine terms many Good faithful first outside good unmoved running) c.1 in
+      let q = closed_agrees c.0 d.0 p.0 p.1 c.2 in
+      (d.0, q.0, q.1, d.2)

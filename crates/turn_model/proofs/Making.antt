@@ -230,7 +230,7 @@ module _ {S V : Type 0} (machine : Machine S V) (terms : Terms) (many pages : �
   last_poll : (s : List Entry) (n : ℕ) (e : Entry) → is_poll e ≡ true → count_of e ≡ n → has_poll (s ++ e ∷ []) n ≡ true
   last_poll s n e poll here = last_passes (λ x. is_poll x && (count_of x == n)) s e (ap₂ (λ a b. a && b) poll (eq-eqb (count_of e) n here))
 
-  due_is : (b : Board S) → is_due machine terms h b ≡ true → (machine.flat.count b.at.flat h < terms.limit) × (machine.flat.count b.at.flat h % 4096 ≡ 0) × (has_poll (stream b h) (machine.flat.count b.at.flat h) ≡ false)
+  pub due_is : (b : Board S) → is_due machine terms h b ≡ true → (machine.flat.count b.at.flat h < terms.limit) × (machine.flat.count b.at.flat h % 4096 ≡ 0) × (has_poll (stream b h) (machine.flat.count b.at.flat h) ≡ false)
   due_is b e = by (leb_tells (suc (machine.flat.count b.at.flat h)) terms.limit) (eqb_tells (machine.flat.count b.at.flat h % 4096) 0) (has_poll (stream b h) (machine.flat.count b.at.flat h)) refl where
     n : ℕ
     n = machine.flat.count b.at.flat h
@@ -297,7 +297,7 @@ module _ {S V : Type 0} (machine : Machine S V) (terms : Terms) (many pages : �
       first_of true y e = refl
       first_of false y e = e
 
-  yields_to_to : (g : ℕ) (b : Board S) → Sound b → Polled b → To Polled b (yields_to machine terms h g b)
+  pub yields_to_to : (g : ℕ) (b : Board S) → Sound b → Polled b → To Polled b (yields_to machine terms h g b)
   yields_to_to g b sound polled = choice Polled b (g == h) (On b) (yields_for machine terms h g (wanted b g) b) (λ _. (same b, polled)) (λ _. yields_for_to g b (wanted b g) sound polled)
 
   all_yields : (gs : List ℕ) (b : Board S) → Sound b → Polled b → To Polled b (goes (map (yields_to machine terms h) gs) (On b))
@@ -351,7 +351,7 @@ module _ {S V : Type 0} (machine : Machine S V) (terms : Terms) (many pages : �
         let f = none_in_below (λ i. not (i == h) && conflict (held b.at.holders n.0 i) (Some n.1)) (length b.streams) clash_none g l in
         absurd (true≢false (sym (ap₂ (λ x y. not x && y) (ne_eqb g h other) e) ∙ f))
 
-  gains_page_to : (n : ℕ × Mode) (b : Board S) → Sound b → Below b → n.0 < pages → To (λ c. Kept b c × (lacks c.at.holders h n ≡ false) × Below c) b (gains_page machine terms h n b)
+  pub gains_page_to : (n : ℕ × Mode) (b : Board S) → Sound b → Below b → n.0 < pages → To (λ c. Kept b c × (lacks c.at.holders h n ≡ false) × Below c) b (gains_page machine terms h n b)
   gains_page_to n b sound low l =
       choice (λ c. Kept b c × (lacks c.at.holders h n ≡ false) × Below c) b (holds_so b h n) (On b) (gains_unless machine terms (kept_by b h n) h n b)
       (λ so. (same b, (kept b, so_not_lacking (strength (held b.at.holders n.0 h)) (strength (Some n.1)) so, low)))

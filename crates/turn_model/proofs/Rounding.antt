@@ -1,23 +1,21 @@
--- Recordings in rounds: their logs are orderly, and their journals are full orders of them.
-use Rattle.std.proofs.Common.{◌≡◌, ℕ, zero, suc, ◌+◌, ◌%◌, ◌<◌, ◌≤◌, ◌==◌, not, Bool, true, false, List, [], ◌∷◌, ◌++◌, length, map, Option, Some, None, refl, sym, ap, subst, arith, if◌then◌else◌}
+-- Recordings in rounds.
+use Rattle.std.proofs.Common.{◌≡◌, ℕ, zero, suc, ◌+◌, ◌%◌, ◌<◌, ◌≤◌, ◌==◌, not, Bool, true, false, List, [], ◌∷◌, ◌++◌, length, map, Option, Some, None, refl, sym, subst, arith, if◌then◌else◌}
 use Rattle.std.specs.Option.{option_and_then}
 use Rattle.std.proofs.Math.Nat.{mod-lt}
 use Rattle.std.proofs.lemmas.Option.{none-some, same_Some}
 use Rattle.orders_law.specs.Orders.{below}
-use Rattle.order_rules.specs.Orderly.{IsOrderly}
-use Rattle.replay_model.specs.State.{Replay, start}
-use Rattle.replay_model.specs.Items.{IsFullOrder}
-use Rattle.replay_model.specs.Journal.{order_of}
 use Rattle.crew_recording.proofs.Steady.{bound_to}
 use Rattle.turn_model.specs.Machine.{Machine}
 use Rattle.turn_model.specs.Board.{Board, Terms, Outside, harts, is_over}
 use Rattle.turn_model.specs.Turn.{turn}
-use Rattle.turn_model.specs.Lists.{Recorded, whole_leg}
+use Rattle.turn_model.specs.Lists.{Recorded, whole_leg, comes_to}
 use Rattle.turn_model.specs.Rounds.{round_from, with_favoured, sweep, round, rounds, last_turns, IsRecordedInRounds}
 use Rattle.turn_model.specs.Faithful.{IsFaithful}
 use Rattle.turn_model.proofs.Ways.{recording_of}
-use Rattle.turn_model.proofs.Turning.{stays, then_goes, sound_goes, turn_goes}
-use Rattle.turn_model.proofs.Listing.{SoundBoard, AsOrdered, GoesTo, can_leg, begin, begin_sound, begin_orders, goes_orderly, goes_full}
+use Rattle.turn_model.proofs.Turning.{CanMove}
+use Rattle.turn_model.proofs.Reaching.{begin, can_leg, no_leg, reached_sound, reached_begin, reached_aside, reached_turn, closing_turn, closing_begin, done_turn}
+use Rattle.turn_model.proofs.Ending.{agrees}
+use Rattle.turn_model.proofs.Listing.{Reached, Closing, Done, Agrees, is_done}
 
 abbrev EachBelow : ℕ → List ℕ → Type 0
 EachBelow n [] = Unit {0}
@@ -39,91 +37,84 @@ round_below : (n r : ℕ) → EachBelow n (map (λ i. (r + i) % n) (below n))
 round_below zero r = tt
 round_below (suc n) r = each_round (suc n) r (below (suc n)) (omega arith)
 
-module _ {S V : Type 0} (machine : Machine S V) (terms : Terms) (many : ℕ) (Good : S → Type 0) (faithful : IsFaithful machine.flat many terms.pages Good) where
-  abbrev Sounds : Board S → Type 0
-  Sounds b = SoundBoard machine terms many Good faithful b
+module _ {S V : Type 0} (machine : Machine S V) (terms : Terms) (many : ℕ) (Good : S → Type 0) (faithful : IsFaithful machine.flat many terms.pages Good) (first : S) (outside : Outside) (good : Good first) (unmoved : (h : ℕ) → machine.flat.count first h ≡ 0) where
+  abbrev Comes : Board S → Type 0
+  Comes b = Reached machine terms many Good faithful first outside good unmoved b × Closing machine terms many Good faithful first outside good unmoved b
 
-  abbrev Ordered : Board S → Type 0
-  Ordered b = AsOrdered machine terms many Good faithful b
+  abbrev Over : Board S → Type 0
+  Over b = Comes b × Done machine terms many Good faithful first outside good unmoved b
 
-  abbrev To : Board S → Board S → Type 0
-  To b c = GoesTo machine terms many Good faithful b c
+  abbrev Moves : ℕ → ℕ → Board S → Type 0
+  Moves h n b = CanMove machine terms many terms.pages Good faithful h n (recording_of b)
 
-  nothing : (b c : Board S) → b ≡ c → Ordered b → To b c × Ordered c
-  nothing b c same orders =
-      (stays machine terms many terms.pages Good faithful b c (ap (λ (x : Board S). recording_of x) same) (sym (ap (λ (x : Board S). x.journal) same)) (sym (ap (λ (x : Board S). x.orders) same)), subst Ordered same orders)
+  leg_or_none : (moved : Bool) (k : ℕ) → k ≡ 0 → (if moved then k else 0) ≡ 0
+  leg_or_none true k e = e
+  leg_or_none false k e = refl
 
-  then_both : (b c d : Board S) → To b c × Ordered c → (Ordered c → To c d × Ordered d) → To b d × Ordered d
-  then_both b c d one more = let two = more one.1 in (then_goes machine terms many terms.pages Good faithful b c d one.0 two.0, two.1)
+  can_move : (h : ℕ) (moved : Bool) (b : Board S) → h < many → Comes b → Moves h (if moved then whole_leg machine terms h b else 0) b
+  can_move h true b inside p = can_leg machine terms many Good faithful h b inside p.0.orders
+  can_move h false b inside p = λ i l. absurd (omega (arith, l))
 
-  -- a turn of a hart with its leg or no moves, another hart being favoured before it or not
-  turn_to : (h n : ℕ) (moved : Bool) (b c : Board S) → h < many → Sounds b → Ordered b → n ≡ (if moved then whole_leg machine terms h b else 0) → turn machine terms h n b ≡ Some c → To b c × Ordered c
-  turn_to h n true b c inside sound orders is did =
-      turn_goes machine terms many terms.pages Good faithful h inside n b c sound orders (λ i l. can_leg machine terms many Good faithful h b inside orders i (subst (λ k. i < k) is l)) did
-  turn_to h n false b c inside sound orders is did =
-      turn_goes machine terms many terms.pages Good faithful h inside n b c sound orders (λ i l. absurd (omega (arith, is, l))) did
-
-  favoured_to : (r : ℕ) (b : Board S) → Ordered b → To b (with_favoured r b) × Ordered (with_favoured r b)
-  favoured_to r b orders = (stays machine terms many terms.pages Good faithful b (with_favoured r b) refl refl refl, λ g l order e. orders g l order e)
-
-  sweep_to : (r : ℕ) (moved : Bool) (hs : List ℕ) (b c : Board S) → EachBelow many hs → Sounds b → Ordered b → sweep machine terms r moved hs b ≡ Some c → To b c × Ordered c
-  sweep_to r moved [] b c each sound orders is = nothing b c (same_Some _ _ is) orders
-  sweep_to r moved (h ∷ hs) b c each sound orders is =
+  -- a turn of a hart with its leg or no moves
+  turn_comes : (h : ℕ) (moved : Bool) (b c : Board S) → h < many → Comes b → turn machine terms h (if moved then whole_leg machine terms h b else 0) b ≡ Some c → Comes c
+  turn_comes h moved b c inside p is =
       let n = if moved then whole_leg machine terms h b else 0 in
-      let m = bound_to (sweep machine terms r moved hs) (turn machine terms h n (with_favoured r b)) c is in
-      let one = favoured_to r b orders in
-      let sound' = sound_goes machine terms many terms.pages Good faithful b (with_favoured r b) sound one.0 in
-      let two = turn_to h n moved (with_favoured r b) m.0 each.0 sound' one.1 refl m.1 in
-      let sound'' = sound_goes machine terms many terms.pages Good faithful (with_favoured r b) m.0 sound' two.0 in
-      then_both b m.0 c (then_both b (with_favoured r b) m.0 one (λ _. two)) (λ o. sweep_to r moved hs m.0 c each.1 sound'' o m.2)
+      let can = can_move h moved b inside p in (
+        reached_turn machine terms many Good faithful first outside good unmoved h n b c inside p.0 can is,
+        closing_turn machine terms many Good faithful first outside good unmoved h n b c inside p.0 can (λ none. leg_or_none moved (whole_leg machine terms h b) (no_leg machine terms many Good faithful h b none)) is p.1,
+      )
 
-  all_harts : (b : Board S) (r : ℕ) → Sounds b → EachBelow many (round_from r b)
-  all_harts b r sound = subst (λ n. EachBelow n (round_from r b)) sound.ordered.tidy.streams (round_below (length b.streams) r)
+  favoured_comes : (r : ℕ) (b : Board S) → Comes b → Comes (with_favoured r b)
+  favoured_comes r b p = (
+    reached_aside machine terms many Good faithful first outside good unmoved b (with_favoured r b) p.0 refl refl refl (λ g l order e. p.0.orders g l order e),
+    record { wants = p.1.wants; closed = p.1.closed },
+  )
 
-  round_to : (r : ℕ) (moved : Bool) (b c : Board S) → Sounds b → Ordered b → round machine terms r moved b ≡ Some c → To b c × Ordered c
-  round_to r moved b c sound orders is =
+  sweep_comes : (r : ℕ) (moved : Bool) (hs : List ℕ) (b c : Board S) → EachBelow many hs → Comes b → sweep machine terms r moved hs b ≡ Some c → Comes c
+  sweep_comes r moved [] b c each p is = subst Comes (same_Some _ _ is) p
+  sweep_comes r moved (h ∷ hs) b c each p is =
+      let m = bound_to (sweep machine terms r moved hs) (turn machine terms h (if moved then whole_leg machine terms h b else 0) (with_favoured r b)) c is in
+      sweep_comes r moved hs m.0 c each.1 (turn_comes h moved (with_favoured r b) m.0 each.0 (favoured_comes r b p) m.1) m.2
+
+  streams_size : (b : Board S) → Comes b → length b.streams ≡ many
+  streams_size b p = (reached_sound machine terms many Good faithful first outside good unmoved b p.0).ordered.tidy.streams
+
+  round_comes : (r : ℕ) (moved : Bool) (b c : Board S) → Comes b → round machine terms r moved b ≡ Some c → Comes c
+  round_comes r moved b c p is =
       let hs = round_from r b in
-      let each = all_harts b r sound in
+      let each = subst (λ n. EachBelow n hs) (streams_size b p) (round_below (length b.streams) r) in
       let y = bound_to (sweep machine terms r false hs) (option_and_then (sweep machine terms r false hs) (sweep machine terms r moved hs b)) c is in
       let x = bound_to (sweep machine terms r false hs) (sweep machine terms r moved hs b) y.0 y.1 in
-      let one = sweep_to r moved hs b x.0 each sound orders x.1 in
-      let sound' = sound_goes machine terms many terms.pages Good faithful b x.0 sound one.0 in
-      let two = sweep_to r false hs x.0 y.0 each sound' one.1 x.2 in
-      let sound'' = sound_goes machine terms many terms.pages Good faithful x.0 y.0 sound' two.0 in
-      let three = sweep_to r false hs y.0 c each sound'' two.1 y.2 in
-      then_both b y.0 c (then_both b x.0 y.0 one (λ _. two)) (λ _. three)
+      sweep_comes r false hs y.0 c each (sweep_comes r false hs x.0 y.0 each (sweep_comes r moved hs b x.0 each p x.1) x.2) y.2
 
   unless : {A : Type 0} (x : Bool) (o : Option A) (a : A) → (if x then None else o) ≡ Some a → o ≡ Some a
   unless true o a e = absurd (none-some _ e)
   unless false o a e = e
 
-  rounds_to : (r more : ℕ) (b c : Board S) → Sounds b → Ordered b → rounds machine terms r more b ≡ Some c → To b c × Ordered c
-  rounds_to r zero b c sound orders is = nothing b c (same_Some _ _ is) orders
-  rounds_to r (suc more) b c sound orders is =
+  rounds_come : (r more : ℕ) (b c : Board S) → Comes b → rounds machine terms r more b ≡ Some c → Comes c
+  rounds_come r zero b c p is = subst Comes (same_Some _ _ is) p
+  rounds_come r (suc more) b c p is =
       let m = bound_to (rounds machine terms (r + 1) more) (round machine terms r (not (r == 0)) b) c (unless (is_over machine terms b) (option_and_then (rounds machine terms (r + 1) more) (round machine terms r (not (r == 0)) b)) c is) in
-      let one = round_to r (not (r == 0)) b m.0 sound orders m.1 in
-      then_both b m.0 c one (λ o. rounds_to (r + 1) more m.0 c (sound_goes machine terms many terms.pages Good faithful b m.0 sound one.0) o m.2)
+      rounds_come (r + 1) more m.0 c (round_comes r (not (r == 0)) b m.0 p m.1) m.2
 
-  last_one : (h : ℕ) (x : Bool) (b c : Board S) → h < many → Sounds b → Ordered b → (if x then Some b else turn machine terms h (whole_leg machine terms h b) b) ≡ Some c → To b c × Ordered c
-  last_one h true b c inside sound orders is = nothing b c (same_Some _ _ is) orders
-  last_one h false b c inside sound orders is = turn_to h (whole_leg machine terms h b) true b c inside sound orders refl is
+  last_one : (h : ℕ) (x : Bool) (b c : Board S) → h < many → Over b → (if x then Some b else turn machine terms h (whole_leg machine terms h b) b) ≡ Some c → Over c
+  last_one h true b c inside p is = subst Over (same_Some _ _ is) p
+  last_one h false b c inside p is = (
+    turn_comes h true b c inside p.0 is,
+    done_turn machine terms many Good faithful first outside good unmoved h (whole_leg machine terms h b) b c inside p.0.0 (can_move h true b inside p.0) is p.1,
+  )
 
-  last_to : (hs : List ℕ) (b c : Board S) → EachBelow many hs → Sounds b → Ordered b → last_turns machine terms hs b ≡ Some c → To b c × Ordered c
-  last_to [] b c each sound orders is = nothing b c (same_Some _ _ is) orders
-  last_to (h ∷ hs) b c each sound orders is =
+  last_come : (hs : List ℕ) (b c : Board S) → EachBelow many hs → Over b → last_turns machine terms hs b ≡ Some c → Over c
+  last_come [] b c each p is = subst Over (same_Some _ _ is) p
+  last_come (h ∷ hs) b c each p is =
       let m = bound_to (last_turns machine terms hs) (if whole_leg machine terms h b == 0 then Some b else turn machine terms h (whole_leg machine terms h b) b) c is in
-      let one = last_one h (whole_leg machine terms h b == 0) b m.0 each.0 sound orders m.1 in
-      then_both b m.0 c one (λ o. last_to hs m.0 c each.1 (sound_goes machine terms many terms.pages Good faithful b m.0 sound one.0) o m.2)
+      last_come hs m.0 c each.1 (last_one h (whole_leg machine terms h b == 0) b m.0 each.0 p m.1) m.2
 
-  pub recorded_in_rounds : (first : S) (outside : Outside) (good : Good first) (unmoved : (h : ℕ) → machine.flat.count first h ≡ 0) (r : Recorded S) → IsRecordedInRounds machine terms (begin machine terms many Good faithful first outside good unmoved) r
-      → IsOrderly r.log × ((end : Replay S) × (end.flat ≡ r.ended) × IsFullOrder machine.flat r.log (start r.log first) (order_of r.journal) end)
-  recorded_in_rounds first outside good unmoved r is =
+  pub recorded_in_rounds : machine.flat.is_stopped first ≡ false → (r : Recorded S) → IsRecordedInRounds machine terms (begin machine terms many Good faithful first outside good unmoved) r
+      → (d : Board S) × Reached machine terms many Good faithful first outside good unmoved d × Agrees machine terms many Good faithful first outside good unmoved d × (comes_to machine terms d ≡ r)
+  recorded_in_rounds running r is =
       let b = begin machine terms many Good faithful first outside good unmoved in
-      let sound = begin_sound machine terms many Good faithful first outside good unmoved in
-      let one = rounds_to 0 is.number b is.over sound (begin_orders machine terms many Good faithful first outside good unmoved) is.are_made in
-      let sound' = sound_goes machine terms many terms.pages Good faithful b is.over sound one.0 in
-      let each = subst (λ n. EachBelow many (below n)) (sym sound'.ordered.tidy.streams) (each_below many many (omega arith)) in
-      let two = last_to (harts is.over) is.over is.closed each sound' one.1 is.last in
-      let all = then_goes machine terms many terms.pages Good faithful b is.over is.closed one.0 two.0 in
-      subst (λ (x : Recorded S). IsOrderly x.log × ((end : Replay S) × (end.flat ≡ x.ended) × IsFullOrder machine.flat x.log (start x.log first) (order_of x.journal) end)) (sym is.recorded)
-      (goes_orderly machine terms many Good faithful first outside good unmoved is.closed all, (is.closed.at, refl, goes_full machine terms many Good faithful first outside good unmoved is.closed all))
+      let p = rounds_come 0 is.number b is.over (reached_begin machine terms many Good faithful first outside good unmoved, closing_begin machine terms many Good faithful first outside good unmoved running) is.are_made in
+      let each = subst (λ n. EachBelow many (below n)) (sym (streams_size is.over p)) (each_below many many (omega arith)) in
+      let q = last_come (harts is.over) is.over is.closed each (p, is_done machine terms many Good faithful first outside good unmoved is.over p.0 is.is_over) is.last in
+      (is.closed, q.0.0, agrees machine terms many Good faithful is.closed (reached_sound machine terms many Good faithful first outside good unmoved is.closed q.0.0) q.0.1 q.1, sym is.recorded)

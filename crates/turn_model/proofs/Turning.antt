@@ -1,14 +1,14 @@
 -- Turns make items that are allowed, one after another, and the journal counts these.
-use Rattle.std.proofs.Common.{◌≡◌, ◌≢◌, ◌⊎◌, inl, inr, ℕ, zero, suc, ◌+◌, ◌<◌, ◌==◌, not, Bool, true, false, List, [], ◌∷◌, ◌++◌, length, map, replicate, Option, Some, None, slice_get, slice_set, unwrap_or, refl, sym, ap, ap₂, ◌∙◌, subst, arith, if◌then◌else◌, append-nil, append_assoc}
+use Rattle.std.proofs.Common.{◌≡◌, ◌≢◌, ◌⊎◌, inl, inr, ℕ, zero, suc, ◌+◌, ◌<◌, ◌==◌, not, true, false, List, [], ◌∷◌, ◌++◌, length, map, replicate, Option, Some, None, slice_get, slice_set, unwrap_or, refl, sym, ap, ap₂, ◌∙◌, subst, arith, append-nil, append_assoc}
 use Rattle.std.proofs.lemmas.Option.{none-some, same_Some}
 use Rattle.std.proofs.lemmas.Grind.{flat_map-append}
 use Rattle.std.proofs.lemmas.List.{length-append, map-append}
 use Rattle.std.proofs.lemmas.Bool.{ne_eqb}
 use Rattle.replay_model.specs.State.{Replay, want}
-use Rattle.replay_model.specs.Items.{Item, Move, Verdict, HasEnded, Holds, CanGo, HasDiverged, verdict_on, made, goes}
+use Rattle.replay_model.specs.Items.{Item, Move, verdict_on, made, goes}
 use Rattle.replay_model.specs.Journal.{order_of}
-use Rattle.replay_model.proofs.Driving.{went}
 use Rattle.std.proofs.lemmas.Bool.Decides.{eqb_tells}
+use Rattle.log_entry.specs.declared.log.Entry.{Entry}
 use Rattle.crew_recording.specs.Recording.{Recording, IsRecorded, stream_in}
 use Rattle.crew_recording.specs.Allowed.{IsPolled}
 use Rattle.crew_recording.proofs.Streams.{set_here, set_there, set_size}
@@ -22,12 +22,13 @@ use Rattle.turn_model.specs.Machine.{Machine}
 use Rattle.turn_model.specs.Board.{Board, Order, Go, Hold, Rest, Terms, last_order}
 use Rattle.turn_model.specs.Entering.{Way, On, Ends, Nowhere}
 use Rattle.turn_model.specs.Entering as ways
-use Rattle.turn_model.specs.Steps.{runs, commits, passes, passes_favour, with_want, steps, rests_where_closed, polls, yields, rests_at_limit, gains, touches, goes_on}
-use Rattle.turn_model.specs.Turn.{turn, ended_by, items_made, with_row}
+use Rattle.turn_model.specs.Steps.{runs, commits, steps, rests_where_closed, polls, yields, rests_at_limit, gains, touches, goes_on}
+use Rattle.turn_model.specs.Turn.{turn, ended_by, items_made, with_row, with_rows, with_order}
 use Rattle.turn_model.specs.Faithful.{IsFaithful}
 use Rattle.turn_model.proofs.Ways.{recording_of, by_one, IsSound, OrderIs, further}
+use Rattle.turn_model.proofs.Walking.{Walks, Keeps, steps_walk}
+use Rattle.turn_model.proofs.Leaving.{can_and_does, Committed, committed}
 use Rattle.turn_model.proofs.Making.{Any, Polled, Below, To, rests_where_closed_to, polls_to, yields_come, rests_at_limit_to, below_limit, gains_to, touches_to, goes_on_to}
-use Rattle.replay_model.proofs.Driving.{mapped}
 
 -- an order with one row more
 order_more : (h m : ℕ) (rows : List (ℕ × ℕ)) → order_of (with_row (not (m == 0)) (h, m) rows) ≡ order_of rows ++ replicate m h
@@ -77,7 +78,7 @@ module _ {S V : Type 0} (machine : Machine S V) (terms : Terms) (many pages : �
     orders_size = y.orders_size ∙ x.orders_size;
   }
 
-  sound_made : (b c : Board S) (items : List (ℕ × Item)) → Sound b → MadeBy (recording_of b) items (recording_of c) → length c.orders ≡ length b.orders → Sound c
+  pub sound_made : (b c : Board S) (items : List (ℕ × Item)) → Sound b → MadeBy (recording_of b) items (recording_of c) → length c.orders ≡ length b.orders → Sound c
   sound_made b c items sound made size = record {
     ordered = ordered_all machine.flat many Good faithful.steady faithful.timed pages terms.limit (recording_of b) (recording_of c) items made.0 made.1 sound.ordered;
     fits = fits_all machine.flat many pages (recording_of b) (recording_of c) items made.0 sound.fits;
@@ -87,18 +88,12 @@ module _ {S V : Type 0} (machine : Machine S V) (terms : Terms) (many pages : �
   pub sound_goes : (b c : Board S) → Sound b → Goes b c → Sound c
   sound_goes b c sound goes = sound_made b c goes.items sound goes.made goes.orders_size
 
-  can_and_does : (s : Replay S) (h : ℕ) (item : Item) (v : Verdict) (m : Replay S × Option V) → goes machine.flat s h item v ≡ Some m → (v ≡ CanGo) × (made machine.flat s h item ≡ Some m.0)
-  can_and_does s h item CanGo m e = (refl, went machine.flat s m.0 h item CanGo m.1 e)
-  can_and_does s h item HasEnded m e = absurd (none-some _ e)
-  can_and_does s h item Holds m e = absurd (none-some _ e)
-  can_and_does s h item (HasDiverged rule) m e = absurd (none-some _ e)
-
   runs_made : (h n : ℕ) (r : Recording S) (s : Replay S) → IsOrdered machine.flat many Good faithful.steady faithful.timed pages terms.limit r → h < length r.streams → CanMove h n r → runs machine terms h n r.at ≡ Some s
       → MadeBy r (by_one h (replicate n Move)) (record { at = s; streams = r.streams })
   runs_made h zero r s ordered l can e = (ap (λ (x : Replay S). record r { at = x }) (same_Some _ _ e), tt)
   runs_made h (suc n) r s ordered l can e =
       let m = bound_to (λ (m : Replay S × Option V). runs machine terms h n m.0) (goes machine.flat r.at h Move (verdict_on machine.flat r.at h Move)) s e in
-      let c = can_and_does r.at h Move (verdict_on machine.flat r.at h Move) m.0 m.1 in
+      let c = can_and_does machine terms many pages Good faithful r.at h Move (verdict_on machine.flat r.at h Move) m.0 m.1 in
       let next : Recording S = record { at = m.0.0; streams = r.streams } in
       let one : IsRecorded machine.flat r h Move next = record { hart = l; stands = tt; goes = c.0; made = c.1; streams = refl } in
       let now : machine.flat.count r.at.flat h + 0 ≡ machine.flat.count r.at.flat h = omega arith in
@@ -126,6 +121,9 @@ module _ {S V : Type 0} (machine : Machine S V) (terms : Terms) (many pages : �
     abbrev BelowB : Board S → Type 0
     BelowB = Below machine terms many pages Good faithful h inside
 
+    abbrev CommittedB : ℕ → Board S → Board S → Type 0
+    CommittedB n b c = Committed machine terms many pages Good faithful h n b c
+
     steps_come : (b : Board S) → Sound b → T A b (ways.goes (steps machine terms h) (On b))
     steps_come b sound =
         let flat = machine.flat in
@@ -144,33 +142,34 @@ module _ {S V : Type 0} (machine : Machine S V) (terms : Terms) (many pages : �
         further flat many pages terms.limit Good faithful h A A b₆ (goes_on machine terms h ∷ []) (rests_at_limit machine terms h b₆) s₆
         (rests_at_limit_to machine terms many pages Good faithful h inside A b₆ (λ _. tt)) (λ b₇ s₇ _. goes_on_to machine terms many pages Good faithful h inside b₇)))))))
 
-    -- what is done beside the moves leaves what was recorded, the journal and the orders
-    passes_leaves : (n : ℕ) (c : Board S) (x : Bool) → (recording_of (if x then passes_favour h c else c) ≡ recording_of c) × ((if x then passes_favour h c else c).journal ≡ c.journal) × ((if x then passes_favour h c else c).orders ≡ c.orders)
-    passes_leaves n c true = (refl, refl, refl)
-    passes_leaves n c false = (refl, refl, refl)
+    -- the moves of a turn
+    moves_made : (n : ℕ) (b c : Board S) → Sound b → CanMove h n (recording_of b) → CommittedB n b c → MadeBy (recording_of b) (by_one h (replicate n Move)) (recording_of c)
+    moves_made n b c sound can x =
+        let l : h < length b.streams = (let z = sound.ordered.tidy.streams in omega (arith, z, inside)) in
+        subst (λ streams. MadeBy (recording_of b) (by_one h (replicate n Move)) (record { at = c.at; streams = streams })) (sym x.streams) (runs_made h n (recording_of b) c.at sound.ordered l can x.ran)
 
-    ended_goes : (n : ℕ) (b c d : Board S) (s : Replay S) (way : Way S) → Sound b → Orders b → CanMove h n (recording_of b) → runs machine terms h n b.at ≡ Some s → recording_of c ≡ record { at = s; streams = b.streams } → c.journal ≡ b.journal → c.orders ≡ b.orders
-        → T A c way → ended_by h n b way ≡ Some d → Goes b d × Orders d
-    ended_goes n b c d s (On e) sound orders can ran same journal kept comes is = absurd (none-some _ is)
-    ended_goes n b c d s Nowhere sound orders can ran same journal kept comes is = absurd (none-some _ is)
-    ended_goes n b c d s (Ends order e) sound orders can ran same journal kept comes is =
+    sound_committed : (n : ℕ) (b c : Board S) → Sound b → CanMove h n (recording_of b) → CommittedB n b c → Sound c
+    sound_committed n b c sound can x = sound_made b c (by_one h (replicate n Move)) sound (moves_made n b c sound can x) (ap (λ (xs : List (Option Order)). length xs) x.orders)
+
+    ended_goes : (n : ℕ) (b c d : Board S) (way : Way S) → Sound b → Orders b → CanMove h n (recording_of b) → CommittedB n b c → T A c way → ended_by h n b way ≡ Some d → Goes b d × Orders d
+    ended_goes n b c d (On e) sound orders can x comes is = absurd (none-some _ is)
+    ended_goes n b c d Nowhere sound orders can x comes is = absurd (none-some _ is)
+    ended_goes n b c d (Ends order e) sound orders can x comes is =
         let m = items_made h n b e in
         let items = replicate n Move ++ comes.0.items in
-        let l : h < length b.streams = (let z = sound.ordered.tidy.streams in omega (arith, z, inside)) in
         let size : m ≡ length items = (
-        let z = comes.0.size in let k = ap (λ (r : Recording S). length (unwrap_or (slice_get r.streams h) [])) same in
+        let z = comes.0.size in let k = ap (λ (ss : List (List Entry)). length (stream_in ss h)) x.streams in
         let a = length-append (replicate n Move) comes.0.items in let r = replicate_size n Move in omega (arith, z, k, a, r)) in
-        let moved : MadeBy (recording_of b) (by_one h (replicate n Move)) (recording_of c) = subst (MadeBy (recording_of b) (by_one h (replicate n Move))) (sym same) (runs_made h n (recording_of b) s sound.ordered l can ran) in
         let all : MadeBy (recording_of b) (by_one h items) (recording_of e) =
         subst (λ zs. MadeBy (recording_of b) zs (recording_of e)) (sym (map-append (λ (item : Item). (h, item)) (replicate n Move) comes.0.items))
-        (made_after machine.flat pages terms.limit (recording_of b) (recording_of c) (recording_of e) (by_one h (replicate n Move)) (by_one h comes.0.items) moved comes.0.made) in
-        let same_orders : e.orders ≡ b.orders = comes.0.orders ∙ kept in
+        (made_after machine.flat pages terms.limit (recording_of b) (recording_of c) (recording_of e) (by_one h (replicate n Move)) (by_one h comes.0.items) (moves_made n b c sound can x) comes.0.made) in
+        let same_orders : e.orders ≡ b.orders = comes.0.orders ∙ x.orders in
         let orders_long : length e.orders ≡ many = ap (λ (xs : List (Option Order)). length xs) same_orders ∙ sound.orders_size in
-        subst (λ (x : Board S). Goes b x × Orders x) (same_Some _ _ is) (
+        subst (λ (z : Board S). Goes b z × Orders z) (same_Some _ _ is) (
           record {
             items = by_one h items;
             made = all;
-            order = order_more h m e.journal ∙ ap₂ (λ j k. order_of j ++ replicate k h) (comes.0.journal ∙ journal) size ∙ ap (λ zs. order_of b.journal ++ zs) (sym (of_one h items));
+            order = order_more h m e.journal ∙ ap₂ (λ j k. order_of j ++ replicate k h) (comes.0.journal ∙ x.journal) size ∙ ap (λ zs. order_of b.journal ++ zs) (sym (of_one h items));
             orders_size = set_size e.orders h (Some order) ∙ ap (λ (xs : List (Option Order)). length xs) same_orders;
           },
           λ g less other last. told g less other last items all same_orders orders_long (eqb_tells g h),
@@ -188,13 +187,20 @@ module _ {S V : Type 0} (machine : Machine S V) (terms : Terms) (many pages : �
 
     pub turn_goes : (n : ℕ) (b d : Board S) → Sound b → Orders b → CanMove h n (recording_of b) → turn machine terms h n b ≡ Some d → Goes b d × Orders d
     turn_goes n b d sound orders can is =
-        let x = bound_to (λ c. ended_by h n b (ways.goes (steps machine terms h) (On c))) (commits machine terms h n b) d is in
-        let y = mapped (λ (s : Replay S). with_want h None (passes machine terms h n (record b { at = s }))) (runs machine terms h n b.at) x.0 x.1 in
-        let p = passes_leaves n (record b { at = y.0 }) _ in
-        let same : recording_of x.0 ≡ record { at = y.0; streams = b.streams } = sym (ap (λ (z : Board S). recording_of z) y.2) ∙ p.0 in
-        let journal : x.0.journal ≡ b.journal = sym (ap (λ (z : Board S). z.journal) y.2) ∙ p.1 in
-        let kept : x.0.orders ≡ b.orders = sym (ap (λ (z : Board S). z.orders) y.2) ∙ p.2 in
-        let l : h < length b.streams = (let z = sound.ordered.tidy.streams in omega (arith, z, inside)) in
-        let moved = subst (MadeBy (recording_of b) (by_one h (replicate n Move))) (sym same) (runs_made h n (recording_of b) y.0 sound.ordered l can y.1) in
-        ended_goes n b x.0 d y.0 (ways.goes (steps machine terms h) (On x.0)) sound orders can y.1 same journal kept
-        (steps_come x.0 (sound_made b x.0 (by_one h (replicate n Move)) sound moved (ap (λ (xs : List (Option Order)). length xs) kept))) x.2
+        let c = bound_to (λ c. ended_by h n b (ways.goes (steps machine terms h) (On c))) (commits machine terms h n b) d is in
+        let x = committed machine terms many pages Good faithful h n b c.0 c.1 in
+        ended_goes n b c.0 d (ways.goes (steps machine terms h) (On c.0)) sound orders can x (steps_come c.0 (sound_committed n b c.0 sound can x)) c.2
+
+    -- what the steps of a turn keep
+    pub turn_keeps : (Before During : Board S → Type 0) (After : Order → Board S → Type 0) (P : Board S → Type 0) → Keeps machine terms many pages Good faithful h inside Before During After
+        → (n : ℕ) (b d : Board S) → Sound b → CanMove h n (recording_of b) → turn machine terms h n b ≡ Some d
+        → ((c : Board S) → CommittedB n b c → Before c) → ((c : Board S) (order : Order) → After order c → P (with_rows h n (items_made h n b c) b (with_order h order c))) → P d
+    turn_keeps Before During After P keeps n b d sound can is before after =
+        let c = bound_to (λ c. ended_by h n b (ways.goes (steps machine terms h) (On c))) (commits machine terms h n b) d is in
+        let x = committed machine terms many pages Good faithful h n b c.0 c.1 in
+        by (ways.goes (steps machine terms h) (On c.0)) (steps_walk machine terms many pages Good faithful h inside Before During After keeps c.0 (sound_committed n b c.0 sound can x) (before c.0 x)) c.2
+      where
+        by : (way : Way S) → Walks During After way → ended_by h n b way ≡ Some d → P d
+        by (On e) walks ended = absurd (none-some _ ended)
+        by Nowhere walks ended = absurd (none-some _ ended)
+        by (Ends order e) walks ended = subst P (same_Some _ _ ended) (after e order walks)

@@ -10,6 +10,7 @@ use Rattle.replay_model.specs.State.{Replay, start}
 use Rattle.replay_model.specs.Items.{IsFullOrder}
 use Rattle.replay_model.specs.Acts.{acts_of}
 use Rattle.replay_model.specs.Journal.{order_of}
+use Rattle.replay_model.specs.Outcome.{Done, outcome_at}
 use Rattle.turn_model.specs.Machine.{board_machine}
 use Rattle.turn_model.specs.Board.{Outside, Terms, board_at_start}
 use Rattle.turn_model.specs.Lists.{Recorded, recorded_by_list}
@@ -26,13 +27,14 @@ abbrev pub OfHarts : ℕ → List (ℕ × ℕ) → Type 0
 OfHarts harts [] = Unit {0}
 OfHarts harts (row ∷ list) = (row.0 < harts) × OfHarts harts list
 
--- of a recording from a flat state: its log is orderly; its journal obeys it, leads to the end that is recorded, and is full; and
--- the journal's acts drive the flat machine to that end
+-- of a recording from a flat state: its log is orderly; its journal obeys it, leads to the end that is recorded, and is full; every
+-- hart has ended there, and the cause agrees with it; and the journal's acts drive the flat machine to it
 pub record IsRight (first : FlatState) (r : Recorded FlatState) : Type 0 where
   pub orderly : IsOrderly r.log
   pub end : Replay FlatState
   pub ended : end.flat ≡ r.ended
   pub obeyed : IsFullOrder board r.log (start r.log first) (order_of r.journal) end
+  pub done : outcome_at board r.log end ≡ Some (Done r.ended)
   pub acts : run_from first (acts_of board r.log (start r.log first) (order_of r.journal)) ≡ Some r.ended
 
 -- so is every recording of an image by a list of turns, whatever console and clock give
