@@ -1,5 +1,5 @@
 -- The board's flat machine gives what turns ask of it.
-use Rattle.std.proofs.Common.{◌≡◌, ℕ, zero, suc, ◌+◌, ◌*◌, ◌%◌, ◌<◌, ◌≤◌, ◌==◌, ◌&&◌, ◌||◌, Bool, true, false, not, List, [], ◌∷◌, map, Option, Some, None, slice_get, slice_set, nat_lt, nat_le, is_some, refl, sym, ap, ◌∙◌, subst, inl, inr, ◌⊎◌, arith, if◌then◌else◌, true≢false}
+use Rattle.std.proofs.Common.{◌≡◌, ℕ, zero, suc, ◌+◌, ◌*◌, ◌%◌, ◌<◌, ◌≤◌, ◌==◌, ◌&&◌, ◌||◌, Bool, true, false, not, List, [], ◌∷◌, length, map, Option, Some, None, slice_get, slice_set, nat_lt, nat_le, is_some, refl, sym, ap, ◌∙◌, subst, inl, inr, ◌⊎◌, arith, if◌then◌else◌, true≢false}
 use Rattle.std.specs.Option.{option_and_then, option_map_or}
 use Rattle.std.specs.List.{range_with_len}
 use Rattle.std.proofs.lemmas.List.FromFn.{length-range_with_len}
@@ -28,6 +28,7 @@ use Rattle.rv_hart.specs.declared.effect.Wrote.{Wrote}
 use Rattle.rv_hart.specs.declared.effect.Wrote.TheVariants as wrote
 use Rattle.rv_csr.specs.Registers.{csr_read, is_read_only}
 use Rattle.device_board.specs.Accesses.{touched}
+use Rattle.log_entry.specs.Size.{frame_size}
 use Rattle.elf_image.specs.Image.{Image}
 use Rattle.flat_machine.specs.State.{FlatState, flat_at_start}
 use Rattle.flat_machine.specs.Moves.{fetched, fetched_by, next_move, access_of, lost_by, writes_in}
@@ -51,7 +52,7 @@ use Rattle.turn_model.specs.Lists.{Recorded, comes_to}
 use Rattle.turn_model.specs.Machine.{board_machine}
 use Rattle.turn_model.specs.Faithful.{IsFaithful, AllBelow, is_access}
 use Rattle.turn_model.specs.Laws.{IsBoard, IsRight, RecordingsAreRight, RoundsAreRight}
-use Rattle.turn_model.proofs.Reaching.{IsReached, reached_orderly, reached_full, reached_done}
+use Rattle.turn_model.proofs.Reaching.{IsReached, reached_sound, log_size_is, reached_orderly, reached_full, reached_done}
 use Rattle.turn_model.proofs.Listing.{recorded}
 use Rattle.turn_model.proofs.Rounding.{recorded_in_rounds}
 
@@ -302,12 +303,17 @@ module _ (terms : Terms) (image : Image) (harts : ℕ) (outside : Outside) (page
   ReachedB d = IsReached board_machine terms harts (IsBoard harts terms.pages) (board_faithful harts terms.pages) (flat_at_start image harts) outside (start_with terms image harts pages) (no_place harts) d
 
   -- what is right of a recording
-  all_right : (d : Board FlatState) → ReachedB d → cause_agrees board (log_of board_machine terms d) d.at.flat ≡ true → IsRight (flat_at_start image harts) (comes_to board_machine terms d)
+  all_right : (d : Board FlatState) → ReachedB d → cause_agrees board (log_of board_machine terms d) d.at.flat ≡ true → IsRight terms (flat_at_start image harts) (comes_to board_machine terms d)
   all_right d reached agrees =
       let first = flat_at_start image harts in
       let log = log_of board_machine terms d in
+      let sound = reached_sound board_machine terms harts (IsBoard harts terms.pages) (board_faithful harts terms.pages) first outside (start_with terms image harts pages) (no_place harts) d reached in
+      let streams : length log.streams ≡ harts = log_size_is board_machine terms harts (IsBoard harts terms.pages) (board_faithful harts terms.pages) d ∙ sound.ordered.tidy.streams in
       let full = reached_full board_machine terms harts (IsBoard harts terms.pages) (board_faithful harts terms.pages) first outside (start_with terms image harts pages) (no_place harts) d reached in
       record {
+        terms_are = refl;
+        harts_are = streams ∙ sym (start_with terms image harts pages).harts_size;
+        size = λ frame. reached.within (subst (λ n. frame_size unit n ≤ terms.log_limit) streams frame);
         orderly = reached_orderly board_machine terms harts (IsBoard harts terms.pages) (board_faithful harts terms.pages) first outside (start_with terms image harts pages) (no_place harts) d reached;
         end = d.at;
         ended = refl;
@@ -316,8 +322,8 @@ module _ (terms : Terms) (image : Image) (harts : ℕ) (outside : Outside) (page
         acts = orders_drive log (start log first) d.at (order_of d.journal) (full.0, full.1, full.2.leads);
       }
 
-  right_where_reached : (r : Recorded FlatState) → (d : Board FlatState) × ReachedB d × (cause_agrees board (log_of board_machine terms d) d.at.flat ≡ true) × (comes_to board_machine terms d ≡ r) → IsRight (flat_at_start image harts) r
-  right_where_reached r reached = subst (IsRight (flat_at_start image harts)) reached.3 (all_right reached.0 reached.1 reached.2)
+  right_where_reached : (r : Recorded FlatState) → (d : Board FlatState) × ReachedB d × (cause_agrees board (log_of board_machine terms d) d.at.flat ≡ true) × (comes_to board_machine terms d ≡ r) → IsRight terms (flat_at_start image harts) r
+  right_where_reached r reached = subst (IsRight terms (flat_at_start image harts)) reached.3 (all_right reached.0 reached.1 reached.2)
 
 pub recordings_are_right : RecordingsAreRight
 recordings_are_right terms image harts outside list r pages of is =

@@ -5,6 +5,7 @@ pub mod Walking
 pub mod Leaving
 pub mod Turning
 pub mod Closing
+pub mod Sizing
 pub mod Reaching
 pub mod Ending
 pub mod Listing

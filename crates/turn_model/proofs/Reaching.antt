@@ -31,6 +31,7 @@ use Rattle.turn_model.proofs.Ways.{recording_of}
 use Rattle.turn_model.proofs.Walking.{Keeps}
 use Rattle.turn_model.proofs.Leaving.{Committed}
 use Rattle.turn_model.proofs.Turning.{Sound, Orders, CanMove, Goes, stays, then_goes, sound_goes, turn_goes, turn_keeps}
+use Rattle.turn_model.proofs.Sizing.{IsWithin, within_begin, within_alike, within_keeps}
 use Rattle.turn_model.proofs.Closing.{MakesNone, IsClosing, Before, During, After, closing_keeps, commit_keeps}
 
 abbrev no_streams : ℕ → List (List Entry)
@@ -63,6 +64,9 @@ module _ {S V : Type 0} (machine : Machine S V) (terms : Terms) (many : ℕ) (Go
 
   abbrev pub Closes : Board S → Type 0
   Closes b = IsClosing machine terms many terms.pages Good faithful b
+
+  abbrev Within : Board S → Type 0
+  Within b = IsWithin machine terms many terms.pages Good faithful b
 
   abbrev MovesOf : ℕ → ℕ → Board S → Type 0
   MovesOf h n b = CanMove machine terms many terms.pages Good faithful h n (recording_of b)
@@ -149,6 +153,7 @@ module _ {S V : Type 0} (machine : Machine S V) (terms : Terms) (many : ℕ) (Go
     pub record IsReached (b : Board S) : Type 0 where
       pub goes : GoesTo begin b
       pub orders : AsOrdered b
+      pub within : Within b
 
     pub reached_sound : (b : Board S) → IsReached b → SoundBoard b
     reached_sound b reached = sound_goes machine terms many terms.pages Good faithful begin b begin_sound reached.goes
@@ -157,6 +162,7 @@ module _ {S V : Type 0} (machine : Machine S V) (terms : Terms) (many : ℕ) (Go
     reached_begin = record {
       goes = stays machine terms many terms.pages Good faithful begin begin refl refl refl;
       orders = λ g l order e. absurd (none-some _ (sym (none_of many g) ∙ e));
+      within = within_begin machine terms many terms.pages Good faithful first outside;
     }
 
     -- what is changed beside the replay state, the streams, the journal and the orders
@@ -164,12 +170,18 @@ module _ {S V : Type 0} (machine : Machine S V) (terms : Terms) (many : ℕ) (Go
     reached_aside b c reached same journal orders ordered = record {
       goes = then_goes machine terms many terms.pages Good faithful begin b c reached.goes (stays machine terms many terms.pages Good faithful b c same journal orders);
       orders = ordered;
+      within = within_alike machine terms many terms.pages Good faithful b c (sym (ap (λ (r : Recording S). r.streams) same)) reached.within;
     }
 
     pub reached_turn : (h n : ℕ) (b d : Board S) → h < many → IsReached b → MovesOf h n b → turn machine terms h n b ≡ Some d → IsReached d
     reached_turn h n b d inside reached can is =
         let one = turn_goes machine terms many terms.pages Good faithful h inside n b d (reached_sound b reached) reached.orders can is in
-        record { goes = then_goes machine terms many terms.pages Good faithful begin b d reached.goes one.0; orders = one.1 }
+        record {
+          goes = then_goes machine terms many terms.pages Good faithful begin b d reached.goes one.0;
+          orders = one.1;
+          within = turn_keeps machine terms many terms.pages Good faithful h inside Within Within (λ order c. Within c) Within (within_keeps machine terms many terms.pages Good faithful h inside) n b d (reached_sound b reached) can is
+              (λ c x. within_alike machine terms many terms.pages Good faithful b c x.streams reached.within) (λ c order within. within);
+        }
 
     pub closing_turn : (h n : ℕ) (b d : Board S) → h < many → IsReached b → MovesOf h n b → (MakesNone (last_order b h) → n ≡ 0) → turn machine terms h n b ≡ Some d → Closes b → Closes d
     closing_turn h n b d inside reached can none is closing =

@@ -1,6 +1,8 @@
 -- What holds of each recording of a board.
-use Rattle.std.specs.Prelude.{ℕ, ◌≡◌, ◌<◌, List, [], ◌∷◌, length, slice_get, Some}
+use Rattle.std.specs.Prelude.{ℕ, ◌≡◌, ◌<◌, ◌≤◌, List, [], ◌∷◌, length, slice_get, Some}
 use Rattle.rv_hart.specs.State.{Hart}
+use Rattle.log_entry.specs.Parts.{unit_of}
+use Rattle.log_entry.specs.Size.{frame_size, size_of_log}
 use Rattle.elf_image.specs.Image.{Image}
 use Rattle.flat_machine.specs.State.{FlatState, flat_at_start}
 use Rattle.flat_machine.specs.Runs.{run_from}
@@ -12,7 +14,7 @@ use Rattle.replay_model.specs.Acts.{acts_of}
 use Rattle.replay_model.specs.Journal.{order_of}
 use Rattle.replay_model.specs.Outcome.{Done, outcome_at}
 use Rattle.turn_model.specs.Machine.{board_machine}
-use Rattle.turn_model.specs.Board.{Outside, Terms, board_at_start}
+use Rattle.turn_model.specs.Board.{Outside, Terms, log_with, board_at_start}
 use Rattle.turn_model.specs.Lists.{Recorded, recorded_by_list}
 use Rattle.turn_model.specs.Rounds.{IsRecordedInRounds}
 
@@ -27,9 +29,13 @@ abbrev pub OfHarts : ℕ → List (ℕ × ℕ) → Type 0
 OfHarts harts [] = Unit {0}
 OfHarts harts (row ∷ list) = (row.0 < harts) × OfHarts harts list
 
--- of a recording from a flat state: its log is orderly; its journal obeys it, leads to the end that is recorded, and is full; every
--- hart has ended there, and the cause agrees with it; and the journal's acts drive the flat machine to it
-pub record IsRight (first : FlatState) (r : Recorded FlatState) : Type 0 where
+-- of a recording from a flat state: its log says the terms, has a stream for each hart, keeps to the log limit where a log of Ends
+-- alone does, and is orderly; its journal obeys it, leads to the end that is recorded, and is full; every hart has ended there, and
+-- the cause agrees with it; and the journal's acts drive the flat machine to it
+pub record IsRight (terms : Terms) (first : FlatState) (r : Recorded FlatState) : Type 0 where
+  pub terms_are : r.log ≡ log_with terms r.log.streams r.log.cause
+  pub harts_are : length r.log.streams ≡ board.harts first
+  pub size : frame_size (unit_of r.log) (length r.log.streams) ≤ terms.log_limit → size_of_log (unit_of r.log) r.log.streams ≤ terms.log_limit
   pub orderly : IsOrderly r.log
   pub end : Replay FlatState
   pub ended : end.flat ≡ r.ended
@@ -41,10 +47,10 @@ pub record IsRight (first : FlatState) (r : Recorded FlatState) : Type 0 where
 abbrev pub RecordingsAreRight : Type 0
 RecordingsAreRight = (terms : Terms) (image : Image) (harts : ℕ) (outside : Outside) (list : List (ℕ × ℕ)) (r : Recorded FlatState)
     → terms.pages ≡ image.pages → OfHarts harts list → recorded_by_list board_machine terms list (board_at_start terms harts (flat_at_start image harts) outside) ≡ Some r
-    → IsRight (flat_at_start image harts) r
+    → IsRight terms (flat_at_start image harts) r
 
 -- and every recording of it in rounds
 abbrev pub RoundsAreRight : Type 0
 RoundsAreRight = (terms : Terms) (image : Image) (harts : ℕ) (outside : Outside) (r : Recorded FlatState)
     → terms.pages ≡ image.pages → IsRecordedInRounds board_machine terms (board_at_start terms harts (flat_at_start image harts) outside) r
-    → IsRight (flat_at_start image harts) r
+    → IsRight terms (flat_at_start image harts) r
