@@ -1,11 +1,20 @@
 -- The board's flat machine gives what turns ask of it.
-use Rattle.std.proofs.Common.{◌≡◌, ℕ, zero, suc, ◌+◌, ◌*◌, ◌%◌, ◌<◌, ◌≤◌, ◌==◌, ◌&&◌, ◌||◌, Bool, true, false, not, List, [], ◌∷◌, length, map, Option, Some, None, slice_get, slice_set, nat_lt, nat_le, is_some, refl, sym, ap, ◌∙◌, subst, inl, inr, ◌⊎◌, arith, if◌then◌else◌, true≢false}
-use Rattle.std.specs.Option.{option_and_then, option_map_or}
+use Rattle.std.proofs.Common.{◌≡◌, ℕ, zero, suc, ◌+◌, ◌*◌, ◌%◌, ◌<◌, ◌≤◌, ◌==◌, ◌&&◌, ◌||◌, Bool, true, false, not, List, [], ◌∷◌, ◌++◌, length, map, Option, Some, None, slice_get, slice_set, nat_lt, nat_le, is_some, refl, sym, ap, ◌∙◌, subst, inl, inr, ◌⊎◌, arith, if◌then◌else◌, true≢false}
+use Rattle.std.specs.Option.{option_map, option_and_then, option_map_or}
 use Rattle.std.specs.List.{range_with_len}
 use Rattle.std.proofs.lemmas.List.FromFn.{length-range_with_len}
 use Rattle.std.proofs.lemmas.Option.{none-some, same_Some}
 use Rattle.std.proofs.lemmas.Bool.Decides.{eqb_tells, leb_tells}
+use Rattle.rv_words.specs.declared.shared.Access.{Access}
 use Rattle.rv_words.specs.declared.shared.Input.{Input}
+use Rattle.rv_words.specs.declared.shared.Input.TheVariants as inputs
+use Rattle.rv_words.specs.declared.shared.DeviceWord.{DeviceWord}
+use Rattle.rv_words.specs.declared.shared.DeviceWord.TheVariants as words
+use Rattle.rv_words.specs.Addresses.{device_word}
+use Rattle.log_entry.specs.Parts.{time_of_input}
+use Rattle.device_board.specs.State.{Devices, with_time}
+use Rattle.device_board.specs.Recording.{bytes_given}
+use Rattle.std.proofs.lemmas.List.{length-append, append-nil}
 use Rattle.rv_words.specs.Addresses.{in_memory}
 use Rattle.rv_csr.specs.Traps.{pending}
 use Rattle.rv_decode.specs.declared.Instr.{Instr}
@@ -27,7 +36,7 @@ use Rattle.rv_hart.specs.declared.effect.Fetch.TheVariants as fetch
 use Rattle.rv_hart.specs.declared.effect.Wrote.{Wrote}
 use Rattle.rv_hart.specs.declared.effect.Wrote.TheVariants as wrote
 use Rattle.rv_csr.specs.Registers.{csr_read, is_read_only}
-use Rattle.device_board.specs.Accesses.{touched}
+use Rattle.device_board.specs.Accesses.{touched, word_touched, loaded, timed, stored}
 use Rattle.log_entry.specs.Size.{frame_size}
 use Rattle.elf_image.specs.Image.{Image}
 use Rattle.flat_machine.specs.State.{FlatState, flat_at_start}
@@ -50,9 +59,9 @@ use Rattle.replay_model.specs.Outcome.{cause_agrees}
 use Rattle.turn_model.specs.Board.{Board, Outside, Terms, log_of}
 use Rattle.turn_model.specs.Lists.{Recorded, comes_to}
 use Rattle.turn_model.specs.Machine.{board_machine}
-use Rattle.turn_model.specs.Faithful.{IsFaithful, AllBelow, is_access}
+use Rattle.turn_model.specs.Faithful.{IsFaithful, AllBelow, AccessesSend, is_access, time_in}
 use Rattle.turn_model.specs.Laws.{IsBoard, IsRight, RecordingsAreRight, RoundsAreRight}
-use Rattle.turn_model.proofs.Reaching.{IsReached, reached_sound, log_size_is, reached_orderly, reached_full, reached_done}
+use Rattle.turn_model.proofs.Reaching.{IsReached, reached_sound, log_size_is, reached_orderly, reached_full, reached_done, reached_agrees}
 use Rattle.turn_model.proofs.Listing.{recorded}
 use Rattle.turn_model.proofs.Rounding.{recorded_in_rounds}
 
@@ -237,18 +246,130 @@ poll_tells s t h time is =
     let x = bound_to (poll_made s h time) (slice_get s.harts h) t is in
     first_false (is_some s.devices.stop) (nat_lt time s.devices.mtime) (not_chosen (is_some s.devices.stop || nat_lt time s.devices.mtime) _ t x.2)
 
--- a Touch alone sets stop
-stop_stays : (s t : FlatState) (act : Act) → is_access act ≡ false → next act s ≡ Some t → board.is_stopped t ≡ board.is_stopped s
-stop_stays s t (Run h) plain is =
+-- a Touch alone changes the devices but for the time, and a Poll that
+devices_stay : {X : Type 0} (view : Devices → X) (s t : FlatState) (act : Act) → is_access act ≡ false → ((time : ℕ) → time_in act ≡ Some time → view (with_time time s.devices) ≡ view s.devices) → next act s ≡ Some t → view t.devices ≡ view s.devices
+devices_stay view s t (Run h) plain timed is =
     let x = bound_to (λ x. ran s h x (next_move x s.memory)) (slice_get s.harts h) t is in
-    sym (ap (λ (u : FlatState). is_some u.devices.stop) (chosen (is_some (access_of (need_of (next_move x.0 s.memory)))) _ t x.2))
-stop_stays s t (Touch h input) plain is = absurd (true≢false plain)
-stop_stays s t (Poll h time) plain is =
+    sym (ap (λ (u : FlatState). view u.devices) (chosen (is_some (access_of (need_of (next_move x.0 s.memory)))) _ t x.2))
+devices_stay view s t (Touch h input) plain timed is = absurd (true≢false plain)
+devices_stay view s t (Poll h time) plain timed is =
     let x = bound_to (poll_made s h time) (slice_get s.harts h) t is in
-    sym (ap (λ (u : FlatState). is_some u.devices.stop) (chosen (is_some s.devices.stop || nat_lt time s.devices.mtime) _ t x.2))
-stop_stays s t (Lose h) plain is =
+    sym (ap (λ (u : FlatState). view u.devices) (chosen (is_some s.devices.stop || nat_lt time s.devices.mtime) _ t x.2)) ∙ timed time refl
+devices_stay view s t (Lose h) plain timed is =
     let x = mapped (lost s h) (slice_get s.harts h) t is in
-    sym (ap (λ (u : FlatState). is_some u.devices.stop) x.2)
+    sym (ap (λ (u : FlatState). view u.devices) x.2)
+
+-- what a Touch did to the devices
+touch_did : (s t : FlatState) (h : ℕ) (input : Input) → next (Touch h input) s ≡ Some t → (access : Access) × (hart_access s h ≡ Some access) × ((loaded : ℕ) × (touched s.devices access input ≡ Some (t.devices, loaded)))
+touch_did s t h input is =
+    let x = bound_to (λ x. touch_made s h input x (next_move x s.memory)) (slice_get s.harts h) t is in
+    let d = mapped (accessed s h x.0 (next_move x.0 s.memory)) (option_and_then (λ access. touched s.devices access input) (access_of (need_of (next_move x.0 s.memory)))) t (unless (is_some s.devices.stop) _ t x.2) in
+    let a = bound_to (λ access. touched s.devices access input) (access_of (need_of (next_move x.0 s.memory))) d.0 d.1 in
+    (a.0, ap (option_and_then (λ x. next_access x s.memory)) x.1 ∙ a.1, (d.0.1, a.2 ∙ ap (λ devices. Some (devices, d.0.1)) (ap (λ (u : FlatState). u.devices) d.2)))
+
+-- a load changes the time alone, to that of its input
+abbrev Timed : Devices → Devices → Input → Type 0
+Timed d e input = (e ≡ d) ⊎ ((t : ℕ) × (input ≡ inputs.Time t) × (e ≡ with_time t d))
+
+same_first : (d e : Devices) (v w : ℕ) → ◌≡◌ {A = Option (Devices × ℕ)} (Some (d, v)) (Some (e, w)) → e ≡ d
+same_first d e v w is = sym (ap (λ (z : Devices × ℕ). z.0) (same_Some _ _ is))
+
+timed_did : (d e : Devices) (t v w : ℕ) → timed d t v ≡ Some (e, w) → Timed d e (inputs.Time t)
+timed_did d e t v w is = by (nat_le d.mtime t) is where
+  made : Option (Devices × ℕ)
+  made = Some (with_time t d, v)
+
+  by : (b : Bool) → (if b then made else None) ≡ Some (e, w) → Timed d e (inputs.Time t)
+  by true is = inr (t, refl, same_first (with_time t d) e v w is)
+  by false is = absurd (none-some _ is)
+
+load_did : (d e : Devices) (word : DeviceWord) (input : Input) (w : ℕ) → loaded d word input ≡ Some (e, w) → Timed d e input
+load_did d e (words.Msip h) inputs.Nothing w is = inl (same_first _ e _ w is)
+load_did d e (words.Msip h) inputs.Empty w is = absurd (none-some _ is)
+load_did d e (words.Msip h) (inputs.Byte b) w is = absurd (none-some _ is)
+load_did d e (words.Msip h) (inputs.Time t) w is = absurd (none-some _ is)
+load_did d e (words.CompareLow h) inputs.Nothing w is = inl (same_first _ e _ w is)
+load_did d e (words.CompareLow h) inputs.Empty w is = absurd (none-some _ is)
+load_did d e (words.CompareLow h) (inputs.Byte b) w is = absurd (none-some _ is)
+load_did d e (words.CompareLow h) (inputs.Time t) w is = absurd (none-some _ is)
+load_did d e (words.CompareHigh h) inputs.Nothing w is = inl (same_first _ e _ w is)
+load_did d e (words.CompareHigh h) inputs.Empty w is = absurd (none-some _ is)
+load_did d e (words.CompareHigh h) (inputs.Byte b) w is = absurd (none-some _ is)
+load_did d e (words.CompareHigh h) (inputs.Time t) w is = absurd (none-some _ is)
+load_did d e words.TimeLow inputs.Nothing w is = absurd (none-some _ is)
+load_did d e words.TimeLow inputs.Empty w is = absurd (none-some _ is)
+load_did d e words.TimeLow (inputs.Byte b) w is = absurd (none-some _ is)
+load_did d e words.TimeLow (inputs.Time t) w is = timed_did d e t _ w is
+load_did d e words.TimeHigh inputs.Nothing w is = absurd (none-some _ is)
+load_did d e words.TimeHigh inputs.Empty w is = absurd (none-some _ is)
+load_did d e words.TimeHigh (inputs.Byte b) w is = absurd (none-some _ is)
+load_did d e words.TimeHigh (inputs.Time t) w is = timed_did d e t _ w is
+load_did d e words.Rx inputs.Nothing w is = absurd (none-some _ is)
+load_did d e words.Rx inputs.Empty w is = inl (same_first _ e _ w is)
+load_did d e words.Rx (inputs.Byte b) w is = inl (same_first _ e _ w is)
+load_did d e words.Rx (inputs.Time t) w is = absurd (none-some _ is)
+load_did d e words.Tx inputs.Nothing w is = inl (same_first _ e _ w is)
+load_did d e words.Tx inputs.Empty w is = absurd (none-some _ is)
+load_did d e words.Tx (inputs.Byte b) w is = absurd (none-some _ is)
+load_did d e words.Tx (inputs.Time t) w is = absurd (none-some _ is)
+load_did d e words.Stop inputs.Nothing w is = inl (same_first _ e _ w is)
+load_did d e words.Stop inputs.Empty w is = absurd (none-some _ is)
+load_did d e words.Stop (inputs.Byte b) w is = absurd (none-some _ is)
+load_did d e words.Stop (inputs.Time t) w is = absurd (none-some _ is)
+
+none_given : (word : DeviceWord) → bytes_given word None ≡ []
+none_given (words.Msip h) = refl
+none_given (words.CompareLow h) = refl
+none_given (words.CompareHigh h) = refl
+none_given words.TimeLow = refl
+none_given words.TimeHigh = refl
+none_given words.Rx = refl
+none_given words.Tx = refl
+none_given words.Stop = refl
+
+-- a store sends what it gives, and leaves the time
+store_did : (d : Devices) (word : DeviceWord) (v : ℕ) → ((stored d word v).sent ≡ d.sent ++ bytes_given word (Some v)) × ((stored d word v).mtime ≡ d.mtime)
+store_did d (words.Msip h) v = (sym (append-nil d.sent), refl)
+store_did d (words.CompareLow h) v = (sym (append-nil d.sent), refl)
+store_did d (words.CompareHigh h) v = (sym (append-nil d.sent), refl)
+store_did d words.TimeLow v = (sym (append-nil d.sent), refl)
+store_did d words.TimeHigh v = (sym (append-nil d.sent), refl)
+store_did d words.Rx v = (sym (append-nil d.sent), refl)
+store_did d words.Tx v = (refl, refl)
+store_did d words.Stop v = (sym (append-nil d.sent), refl)
+
+-- an access sends what it gives, and leaves the time where its input has none
+word_did : (d e : Devices) (word : DeviceWord) (store : Option ℕ) (input : Input) (w : ℕ) → word_touched d word store input ≡ Some (e, w) → (e.sent ≡ d.sent ++ bytes_given word store) × (time_of_input input ≡ None → e.mtime ≡ d.mtime)
+word_did d e word None input w is = by (load_did d e word input w is) where
+  by : Timed d e input → (e.sent ≡ d.sent ++ bytes_given word None) × (time_of_input input ≡ None → e.mtime ≡ d.mtime)
+  by (inl same) = (ap (λ (x : Devices). x.sent) same ∙ sym (ap (λ bytes. d.sent ++ bytes) (none_given word) ∙ append-nil d.sent), λ _. ap (λ (x : Devices). x.mtime) same)
+  by (inr timed) = (ap (λ (x : Devices). x.sent) timed.2 ∙ sym (ap (λ bytes. d.sent ++ bytes) (none_given word) ∙ append-nil d.sent), λ none. absurd (none-some _ (sym none ∙ ap time_of_input timed.1)))
+word_did d e word (Some v) inputs.Nothing w is =
+    let same = same_first (stored d word v) e 0 w is in
+    let did = store_did d word v in
+    (ap (λ (x : Devices). x.sent) same ∙ did.0, λ _. ap (λ (x : Devices). x.mtime) same ∙ did.1)
+word_did d e word (Some v) inputs.Empty w is = absurd (none-some _ is)
+word_did d e word (Some v) (inputs.Byte b) w is = absurd (none-some _ is)
+word_did d e word (Some v) (inputs.Time t) w is = absurd (none-some _ is)
+
+time_stays : (s t : FlatState) (act : Act) → time_in act ≡ None → next act s ≡ Some t → board.time t ≡ board.time s
+time_stays s t (Run h) none is = devices_stay (λ d. d.mtime) s t (Run h) refl (λ time e. absurd (none-some _ e)) is
+time_stays s t (Touch h input) none is =
+    let x = touch_did s t h input is in
+    let w = bound_to (λ word. word_touched s.devices word x.0.store input) (device_word s.devices.harts x.0.at) (t.devices, x.2.0) x.2.1 in
+    (word_did s.devices t.devices w.0 x.0.store input x.2.0 w.2).1 none
+time_stays s t (Poll h time) none is = absurd (none-some _ (sym none))
+time_stays s t (Lose h) none is = devices_stay (λ d. d.mtime) s t (Lose h) refl (λ time e. absurd (none-some _ e)) is
+
+pub board_sends : AccessesSend board_machine
+board_sends s t h word store input access is =
+    let x = touch_did s t h input is in
+    let w = bound_to (λ word. word_touched s.devices word x.0.store input) (device_word s.devices.harts x.0.at) (t.devices, x.2.0) x.2.1 in
+    let named : board_machine.access s h ≡ Some (w.0, x.0.store) =
+    ap (option_and_then (λ a. option_map (λ word. (word, a.store)) (device_word s.devices.harts a.at))) x.1 ∙ ap (option_map (λ word. (word, x.0.store))) w.1 in
+    let same = same_Some _ _ (sym named ∙ access) in
+    let did = (word_did s.devices t.devices w.0 x.0.store input x.2.0 w.2).0 ∙ ap (λ (p : DeviceWord × Option ℕ). s.devices.sent ++ bytes_given p.0 p.1) same in
+    ap (λ (bytes : List ℕ). length bytes) did ∙ length-append s.devices.sent (bytes_given word store)
 
 board_steadier : (harts pages : ℕ) → IsSteady board harts (IsBoard harts pages)
 board_steadier harts pages = record {
@@ -281,7 +402,9 @@ board_faithful harts pages = record {
   timed = board_timelier harts pages;
   inside = λ s h on. need_of_hart pages s.memory (slice_get s.harts h) (λ x e. on.pages_are h x e);
   touches = touch_tells;
-  stops = stop_stays;
+  stops = λ s t act plain is. devices_stay (λ d. is_some d.stop) s t act plain (λ time e. refl) is;
+  sends = λ s t act plain is. devices_stay (λ d. d.sent) s t act plain (λ time e. refl) is;
+  times = time_stays;
   polls = poll_tells;
 }
 
@@ -303,7 +426,7 @@ module _ (terms : Terms) (image : Image) (harts : ℕ) (outside : Outside) (page
   ReachedB d = IsReached board_machine terms harts (IsBoard harts terms.pages) (board_faithful harts terms.pages) (flat_at_start image harts) outside (start_with terms image harts pages) (no_place harts) d
 
   -- what is right of a recording
-  all_right : (d : Board FlatState) → ReachedB d → cause_agrees board (log_of board_machine terms d) d.at.flat ≡ true → IsRight terms (flat_at_start image harts) (comes_to board_machine terms d)
+  all_right : (d : Board FlatState) → ReachedB d → cause_agrees board (log_of board_machine terms d) d.at.flat ≡ true → IsRight terms outside (flat_at_start image harts) (comes_to board_machine terms d)
   all_right d reached agrees =
       let first = flat_at_start image harts in
       let log = log_of board_machine terms d in
@@ -319,18 +442,26 @@ module _ (terms : Terms) (image : Image) (harts : ℕ) (outside : Outside) (page
         ended = refl;
         obeyed = full;
         done = reached_done board_machine terms harts (IsBoard harts terms.pages) (board_faithful harts terms.pages) first outside (start_with terms image harts pages) (no_place harts) d reached agrees;
+        taken = record {
+          asked = reached.answered.asked;
+          times = reached.answered.times;
+          answers_are = reached.answered.answers_are;
+          times_are = reached.answered.times_are;
+          takes_are = reached.answered.takes_are;
+          agree = reached_agrees board_machine terms harts (IsBoard harts terms.pages) (board_faithful harts terms.pages) first outside (start_with terms image harts pages) (no_place harts) d reached;
+        };
         acts = orders_drive log (start log first) d.at (order_of d.journal) (full.0, full.1, full.2.leads);
       }
 
-  right_where_reached : (r : Recorded FlatState) → (d : Board FlatState) × ReachedB d × (cause_agrees board (log_of board_machine terms d) d.at.flat ≡ true) × (comes_to board_machine terms d ≡ r) → IsRight terms (flat_at_start image harts) r
-  right_where_reached r reached = subst (IsRight terms (flat_at_start image harts)) reached.3 (all_right reached.0 reached.1 reached.2)
+  right_where_reached : (r : Recorded FlatState) → (d : Board FlatState) × ReachedB d × (cause_agrees board (log_of board_machine terms d) d.at.flat ≡ true) × (comes_to board_machine terms d ≡ r) → IsRight terms outside (flat_at_start image harts) r
+  right_where_reached r reached = subst (IsRight terms outside (flat_at_start image harts)) reached.3 (all_right reached.0 reached.1 reached.2)
 
 pub recordings_are_right : RecordingsAreRight
 recordings_are_right terms image harts outside list r pages of is =
     right_where_reached terms image harts outside pages r
-    (recorded board_machine terms harts (IsBoard harts terms.pages) (board_faithful harts terms.pages) (flat_at_start image harts) outside (start_with terms image harts pages) (no_place harts) refl list r of is)
+    (recorded board_machine terms harts (IsBoard harts terms.pages) (board_faithful harts terms.pages) (flat_at_start image harts) outside (start_with terms image harts pages) (no_place harts) board_sends (refl, refl, refl) list r of is)
 
 pub rounds_are_right : RoundsAreRight
 rounds_are_right terms image harts outside r pages is =
     right_where_reached terms image harts outside pages r
-    (recorded_in_rounds board_machine terms harts (IsBoard harts terms.pages) (board_faithful harts terms.pages) (flat_at_start image harts) outside (start_with terms image harts pages) (no_place harts) refl r is)
+    (recorded_in_rounds board_machine terms harts (IsBoard harts terms.pages) (board_faithful harts terms.pages) (flat_at_start image harts) outside (start_with terms image harts pages) (no_place harts) board_sends (refl, refl, refl) r is)

@@ -6,6 +6,8 @@ pub mod Leaving
 pub mod Turning
 pub mod Closing
 pub mod Sizing
+pub mod Ordering
+pub mod Agreeing
 pub mod Reaching
 pub mod Ending
 pub mod Listing

@@ -16,7 +16,7 @@ use Rattle.turn_model.specs.Machine.{Machine}
 use Rattle.turn_model.specs.Board.{Board, Terms, Outside, harts, closes, is_at_limit, is_over, log_of}
 use Rattle.turn_model.specs.Turn.{turn}
 use Rattle.turn_model.specs.Lists.{Recorded, whole_leg, listed, comes_to, closed_after, recorded_by_list}
-use Rattle.turn_model.specs.Faithful.{IsFaithful}
+use Rattle.turn_model.specs.Faithful.{IsFaithful, AccessesSend}
 use Rattle.turn_model.specs.Laws.{OfHarts}
 use Rattle.turn_model.proofs.Ways.{recording_of}
 use Rattle.turn_model.proofs.Turning.{CanMove}
@@ -50,7 +50,7 @@ nothing_in : {X : Type 0} (o : Option X) → is_some o ≡ false → o ≡ None
 nothing_in None e = refl
 nothing_in (Some x) e = absurd (true≢false e)
 
-module _ {S V : Type 0} (machine : Machine S V) (terms : Terms) (many : ℕ) (Good : S → Type 0) (faithful : IsFaithful machine.flat many terms.pages Good) (first : S) (outside : Outside) (good : Good first) (unmoved : (h : ℕ) → machine.flat.count first h ≡ 0) where
+module _ {S V : Type 0} (machine : Machine S V) (terms : Terms) (many : ℕ) (Good : S → Type 0) (faithful : IsFaithful machine.flat many terms.pages Good) (first : S) (outside : Outside) (good : Good first) (unmoved : (h : ℕ) → machine.flat.count first h ≡ 0) (sends : AccessesSend machine) where
   abbrev pub Reached : Board S → Type 0
   Reached b = IsReached machine terms many Good faithful first outside good unmoved b
 
@@ -65,6 +65,10 @@ module _ {S V : Type 0} (machine : Machine S V) (terms : Terms) (many : ℕ) (Go
 
   abbrev Moves : ℕ → ℕ → Board S → Type 0
   Moves h n b = CanMove machine terms many terms.pages Good faithful h n (recording_of b)
+
+  -- nothing was stopped or sent, and no time was told
+  abbrev pub IsFresh : S → Type 0
+  IsFresh s = (machine.flat.is_stopped s ≡ false) × (machine.flat.sent s ≡ []) × (machine.flat.time s ≡ 0)
 
   -- what each turn of a list keeps
   listed_keeps : (P : Board S → Type 0) → ((h most : ℕ) (b c : Board S) → h < many → P b → turn machine terms h (min most (whole_leg machine terms h b)) b ≡ Some c → P c)
@@ -81,7 +85,7 @@ module _ {S V : Type 0} (machine : Machine S V) (terms : Terms) (many : ℕ) (Go
   one_turn h most b c inside p is =
       let n = min most (whole_leg machine terms h b) in
       let can = can_move h most b inside p.0 in (
-        reached_turn machine terms many Good faithful first outside good unmoved h n b c inside p.0 can is,
+        reached_turn machine terms many Good faithful first outside good unmoved sends h n b c inside p.0 can is,
         closing_turn machine terms many Good faithful first outside good unmoved h n b c inside p.0 can (λ none. min_none most (whole_leg machine terms h b) (no_leg machine terms many Good faithful h b none)) is p.1,
       )
 
@@ -112,7 +116,7 @@ module _ {S V : Type 0} (machine : Machine S V) (terms : Terms) (many : ℕ) (Go
       let can = can_move h 0 b of.0 p.0 in
       let shut = shut_turn machine terms many Good faithful h of.0 Cut (λ t. t ≡ s) n b m.0 sound can m.1 p.1
       (λ d x. (after_runs machine terms many terms.pages Good faithful h n b.at d.at sound.ordered.tidy.good x.ran).none (min_of_none (whole_leg machine terms h b)) ∙ p.2) in
-      cut_turns s hs m.0 c of.1 (reached_turn machine terms many Good faithful first outside good unmoved h n b m.0 of.0 p.0 can m.1, shut.0, shut.1) m.2
+      cut_turns s hs m.0 c of.1 (reached_turn machine terms many Good faithful first outside good unmoved sends h n b m.0 of.0 p.0 can m.1, shut.0, shut.1) m.2
 
   closed_agrees : (b c : Board S) → Reached b → Closing b → closed_after machine terms b ≡ Some c → Reached c × Agrees c
   closed_agrees b c reached closing is = by (is_over machine terms b) refl is where
@@ -127,7 +131,7 @@ module _ {S V : Type 0} (machine : Machine S V) (terms : Terms) (many : ℕ) (Go
         let both = neither (is_some b.closed) (list_all (is_at_limit machine terms b) (harts b)) short in
         let none = nothing_in b.closed both.0 in
         let cut_board = closes Cut b in
-        let reached' = reached_aside machine terms many Good faithful first outside good unmoved b cut_board reached refl refl refl (λ g l order e. reached.orders g l order e) in
+        let reached' = reached_aside machine terms many Good faithful first outside good unmoved b cut_board reached refl refl refl refl (λ g l order e. reached.orders g l order e) in
         let p = cut_turns b.at (harts b) cut_board c of (reached', ap (λ o. Some (unwrap_or o Cut)) none, refl) is in
         let size = (reached_sound machine terms many Good faithful first outside good unmoved b reached).ordered.tidy.streams in (
           p.0,
@@ -138,12 +142,12 @@ module _ {S V : Type 0} (machine : Machine S V) (terms : Terms) (many : ℕ) (Go
         running : b.closed ≡ None → ClosedSo machine terms many terms.pages Good faithful b b.closed → machine.flat.is_stopped b.at.flat ≡ false
         running none so = subst (ClosedSo machine terms many terms.pages Good faithful b) none so
 
-  pub recorded : machine.flat.is_stopped first ≡ false → (list : List (ℕ × ℕ)) (r : Recorded S) → OfHarts many list → recorded_by_list machine terms list (begin machine terms many Good faithful first outside good unmoved) ≡ Some r
+  pub recorded : IsFresh first → (list : List (ℕ × ℕ)) (r : Recorded S) → OfHarts many list → recorded_by_list machine terms list (begin machine terms many Good faithful first outside good unmoved) ≡ Some r
       → (d : Board S) × Reached d × Agrees d × (comes_to machine terms d ≡ r)
-  recorded running list r of is =
+  recorded fresh list r of is =
       let b = begin machine terms many Good faithful first outside good unmoved in
       let d = mapped (comes_to machine terms) (option_and_then (closed_after machine terms) (listed machine terms list b)) r is in
       let c = bound_to (closed_after machine terms) (listed machine terms list b) d.0 d.1 in
-      let p = listed_keeps (λ x. Reached x × Closing x) one_turn list b c.0 of (reached_begin machine terms many Good faithful first outside good unmoved, closing_begin machine terms many Good faithful first outside good unmoved running) c.1 in
+      let p = listed_keeps (λ x. Reached x × Closing x) one_turn list b c.0 of (reached_begin machine terms many Good faithful first outside good unmoved fresh.1 fresh.2, closing_begin machine terms many Good faithful first outside good unmoved fresh.0) c.1 in
       let q = closed_agrees c.0 d.0 p.0 p.1 c.2 in
       (d.0, q.0, q.1, d.2)

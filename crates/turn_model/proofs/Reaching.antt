@@ -1,17 +1,19 @@
 -- The boards that turns lead to, from the one before any turn.
 use Rattle.std.proofs.Common.{◌≡◌, ◌⊎◌, ℕ, zero, suc, ◌+◌, ◌-◌, ◌<◌, ◌≤◌, Bool, true, false, List, [], ◌∷◌, length, replicate, Option, Some, None, slice_get, unwrap_or, inl, inr, refl, sym, ap, ◌∙◌, subst, arith, if◌then◌else◌}
-use Rattle.std.specs.List.{enumerate_from}
+use Rattle.std.specs.List.{enumerate_from, filter_map}
 use Rattle.std.specs.Option.{option_map_or}
 use Rattle.std.proofs.lemmas.Option.{none-some}
 use Rattle.std.proofs.lemmas.List.FromFn.{length-enumerate_from}
 use Rattle.rv_words.specs.declared.shared.Cause.{Cause}
 use Rattle.log_entry.specs.declared.log.Entry.{Entry}
+use Rattle.log_entry.specs.Parts.{time_of}
 use Rattle.orders_law.specs.Orders.{IsFull}
 use Rattle.order_rules.specs.Orderly.{IsOrderly}
 use Rattle.replay_model.specs.Holders.{nobody}
 use Rattle.replay_model.specs.State.{Replay, start}
 use Rattle.replay_model.specs.Items.{Item, Move, goes, verdict_on, IsFullOrder, step}
 use Rattle.replay_model.specs.Journal.{order_of}
+use Rattle.replay_model.specs.Inputs.{Agree, console_input}
 use Rattle.replay_model.specs.Outcome.{Done, cause_agrees, outcome_at, least_diverged, diverged, Diverged}
 use Rattle.crew_recording.specs.Recording.{Recording, Records, first_recording}
 use Rattle.crew_recording.specs.Allowed.{IsPolled}
@@ -24,14 +26,16 @@ use Rattle.crew_recording.proofs.Together.{Made}
 use Rattle.crew_recording.proofs.Whole.{first_ordered, first_fits, orderly}
 use Rattle.turn_model.specs.Machine.{Machine}
 use Rattle.turn_model.specs.Board.{Board, Order, Go, Hold, Rest, Terms, Outside, stream, last_order, board_at_start, log_of, ended_streams}
-use Rattle.turn_model.specs.Turn.{turn}
+use Rattle.turn_model.specs.Turn.{turn, items_made, with_rows, with_order}
 use Rattle.turn_model.specs.Lists.{leg, leg_by, whole_leg}
-use Rattle.turn_model.specs.Faithful.{IsFaithful}
+use Rattle.turn_model.specs.Faithful.{IsFaithful, AccessesSend}
 use Rattle.turn_model.proofs.Ways.{recording_of}
 use Rattle.turn_model.proofs.Walking.{Keeps}
 use Rattle.turn_model.proofs.Leaving.{Committed}
 use Rattle.turn_model.proofs.Turning.{Sound, Orders, CanMove, Goes, stays, then_goes, sound_goes, turn_goes, turn_keeps}
 use Rattle.turn_model.proofs.Sizing.{IsWithin, within_begin, within_alike, within_keeps}
+use Rattle.turn_model.proofs.Agreeing.{IsAnswered, answered_alike, answered_begin, answered_commit, answered_keeps}
+use Rattle.turn_model.proofs.Ordering.{by_ordinal_is}
 use Rattle.turn_model.proofs.Closing.{MakesNone, IsClosing, Before, During, After, closing_keeps, commit_keeps}
 
 abbrev no_streams : ℕ → List (List Entry)
@@ -149,38 +153,48 @@ module _ {S V : Type 0} (machine : Machine S V) (terms : Terms) (many : ℕ) (Go
       orders_size = replicate_size many None;
     }
 
+    abbrev Answered : Board S → Type 0
+    Answered b = IsAnswered machine terms many terms.pages Good faithful outside b
+
     -- turns led there from the start
     pub record IsReached (b : Board S) : Type 0 where
       pub goes : GoesTo begin b
       pub orders : AsOrdered b
       pub within : Within b
+      pub answered : Answered b
 
     pub reached_sound : (b : Board S) → IsReached b → SoundBoard b
     reached_sound b reached = sound_goes machine terms many terms.pages Good faithful begin b begin_sound reached.goes
 
-    pub reached_begin : IsReached begin
-    reached_begin = record {
+    pub reached_begin : machine.flat.sent first ≡ [] → machine.flat.time first ≡ 0 → IsReached begin
+    reached_begin quiet early = record {
       goes = stays machine terms many terms.pages Good faithful begin begin refl refl refl;
       orders = λ g l order e. absurd (none-some _ (sym (none_of many g) ∙ e));
       within = within_begin machine terms many terms.pages Good faithful first outside;
+      answered = answered_begin machine terms many terms.pages Good faithful outside first quiet early;
     }
 
     -- what is changed beside the replay state, the streams, the journal and the orders
-    pub reached_aside : (b c : Board S) → IsReached b → recording_of b ≡ recording_of c → c.journal ≡ b.journal → c.orders ≡ b.orders → AsOrdered c → IsReached c
-    reached_aside b c reached same journal orders ordered = record {
+    pub reached_aside : (b c : Board S) → IsReached b → recording_of b ≡ recording_of c → c.journal ≡ b.journal → c.orders ≡ b.orders → c.outside ≡ b.outside → AsOrdered c → IsReached c
+    reached_aside b c reached same journal orders left ordered = record {
       goes = then_goes machine terms many terms.pages Good faithful begin b c reached.goes (stays machine terms many terms.pages Good faithful b c same journal orders);
       orders = ordered;
       within = within_alike machine terms many terms.pages Good faithful b c (sym (ap (λ (r : Recording S). r.streams) same)) reached.within;
+      answered = answered_alike machine terms many terms.pages Good faithful outside b c left (ap (λ (r : Recording S). r.streams) (sym same)) (ap (λ (r : Recording S). r.at.cursor.ordinal) (sym same)) (ap (λ (r : Recording S). machine.flat.sent r.at.flat) (sym same))
+          (ap (λ (r : Recording S). machine.flat.time r.at.flat) (sym same)) reached.answered;
     }
 
-    pub reached_turn : (h n : ℕ) (b d : Board S) → h < many → IsReached b → MovesOf h n b → turn machine terms h n b ≡ Some d → IsReached d
-    reached_turn h n b d inside reached can is =
+    pub reached_turn : AccessesSend machine → (h n : ℕ) (b d : Board S) → h < many → IsReached b → MovesOf h n b → turn machine terms h n b ≡ Some d → IsReached d
+    reached_turn sends h n b d inside reached can is =
         let one = turn_goes machine terms many terms.pages Good faithful h inside n b d (reached_sound b reached) reached.orders can is in
         record {
           goes = then_goes machine terms many terms.pages Good faithful begin b d reached.goes one.0;
           orders = one.1;
           within = turn_keeps machine terms many terms.pages Good faithful h inside Within Within (λ order c. Within c) Within (within_keeps machine terms many terms.pages Good faithful h inside) n b d (reached_sound b reached) can is
               (λ c x. within_alike machine terms many terms.pages Good faithful b c x.streams reached.within) (λ c order within. within);
+          answered = turn_keeps machine terms many terms.pages Good faithful h inside Answered Answered (λ order c. Answered c) Answered (answered_keeps machine terms many terms.pages Good faithful outside h inside sends) n b d (reached_sound b reached) can is
+              (λ c x. answered_commit machine terms many terms.pages Good faithful outside h n b c (reached_sound b reached).ordered.tidy.good x reached.answered)
+              (λ c order one. answered_alike machine terms many terms.pages Good faithful outside c (with_rows h n (items_made h n b c) b (with_order h order c)) refl refl refl refl refl one);
         }
 
     pub closing_turn : (h n : ℕ) (b d : Board S) → h < many → IsReached b → MovesOf h n b → (MakesNone (last_order b h) → n ≡ 0) → turn machine terms h n b ≡ Some d → Closes b → Closes d
@@ -223,3 +237,9 @@ module _ {S V : Type 0} (machine : Machine S V) (terms : Terms) (many : ℕ) (Go
         let all = ends machine.flat many Good faithful.steady terms.pages terms.limit terms.image log.cause (recording_of begin) (recording_of d) reached.goes.items reached.goes.made.0 begin_sound.ordered.tidy in
         ap (λ (x : Bool). if x then Some (if cause_agrees machine.flat log d.at.flat then Done d.at.flat else Diverged 0 (machine.flat.count d.at.flat 0) 7 d.at.flat) else least_diverged machine.flat log d.at (diverged machine.flat log d.at)) all
         ∙ ap (λ (x : Bool). Some (if x then Done d.at.flat else Diverged 0 (machine.flat.count d.at.flat 0) 7 d.at.flat)) agrees
+
+    -- what was asked of console and clock agrees with the log
+    pub reached_agrees : (d : Board S) → (reached : IsReached d) → Agree machine.flat (log_of machine terms d) d.at.flat reached.answered.asked reached.answered.times (machine.flat.sent d.at.flat)
+    reached_agrees d reached =
+        let order = by_ordinal_is (machine.flat.count d.at.flat) d.at.cursor.ordinal d.streams (reached_sound d reached).ordered.ordinals in
+        record { console = reached.answered.console ∙ ap (filter_map console_input) (sym order); clock = reached.answered.clock ∙ ap (filter_map time_of) (sym order); bytes = refl }

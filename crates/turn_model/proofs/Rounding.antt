@@ -10,12 +10,12 @@ use Rattle.turn_model.specs.Board.{Board, Terms, Outside, harts, is_over}
 use Rattle.turn_model.specs.Turn.{turn}
 use Rattle.turn_model.specs.Lists.{Recorded, whole_leg, comes_to}
 use Rattle.turn_model.specs.Rounds.{round_from, with_favoured, sweep, round, rounds, last_turns, IsRecordedInRounds}
-use Rattle.turn_model.specs.Faithful.{IsFaithful}
+use Rattle.turn_model.specs.Faithful.{IsFaithful, AccessesSend}
 use Rattle.turn_model.proofs.Ways.{recording_of}
 use Rattle.turn_model.proofs.Turning.{CanMove}
 use Rattle.turn_model.proofs.Reaching.{begin, can_leg, no_leg, reached_sound, reached_begin, reached_aside, reached_turn, closing_turn, closing_begin, done_turn}
 use Rattle.turn_model.proofs.Ending.{agrees}
-use Rattle.turn_model.proofs.Listing.{Reached, Closing, Done, Agrees, is_done}
+use Rattle.turn_model.proofs.Listing.{Reached, Closing, Done, Agrees, IsFresh, is_done}
 
 abbrev EachBelow : ℕ → List ℕ → Type 0
 EachBelow n [] = Unit {0}
@@ -37,12 +37,12 @@ round_below : (n r : ℕ) → EachBelow n (map (λ i. (r + i) % n) (below n))
 round_below zero r = tt
 round_below (suc n) r = each_round (suc n) r (below (suc n)) (omega arith)
 
-module _ {S V : Type 0} (machine : Machine S V) (terms : Terms) (many : ℕ) (Good : S → Type 0) (faithful : IsFaithful machine.flat many terms.pages Good) (first : S) (outside : Outside) (good : Good first) (unmoved : (h : ℕ) → machine.flat.count first h ≡ 0) where
+module _ {S V : Type 0} (machine : Machine S V) (terms : Terms) (many : ℕ) (Good : S → Type 0) (faithful : IsFaithful machine.flat many terms.pages Good) (first : S) (outside : Outside) (good : Good first) (unmoved : (h : ℕ) → machine.flat.count first h ≡ 0) (sends : AccessesSend machine) where
   abbrev Comes : Board S → Type 0
-  Comes b = Reached machine terms many Good faithful first outside good unmoved b × Closing machine terms many Good faithful first outside good unmoved b
+  Comes b = Reached machine terms many Good faithful first outside good unmoved sends b × Closing machine terms many Good faithful first outside good unmoved sends b
 
   abbrev Over : Board S → Type 0
-  Over b = Comes b × Done machine terms many Good faithful first outside good unmoved b
+  Over b = Comes b × Done machine terms many Good faithful first outside good unmoved sends b
 
   abbrev Moves : ℕ → ℕ → Board S → Type 0
   Moves h n b = CanMove machine terms many terms.pages Good faithful h n (recording_of b)
@@ -60,13 +60,13 @@ module _ {S V : Type 0} (machine : Machine S V) (terms : Terms) (many : ℕ) (Go
   turn_comes h moved b c inside p is =
       let n = if moved then whole_leg machine terms h b else 0 in
       let can = can_move h moved b inside p in (
-        reached_turn machine terms many Good faithful first outside good unmoved h n b c inside p.0 can is,
+        reached_turn machine terms many Good faithful first outside good unmoved sends h n b c inside p.0 can is,
         closing_turn machine terms many Good faithful first outside good unmoved h n b c inside p.0 can (λ none. leg_or_none moved (whole_leg machine terms h b) (no_leg machine terms many Good faithful h b none)) is p.1,
       )
 
   favoured_comes : (r : ℕ) (b : Board S) → Comes b → Comes (with_favoured r b)
   favoured_comes r b p = (
-    reached_aside machine terms many Good faithful first outside good unmoved b (with_favoured r b) p.0 refl refl refl (λ g l order e. p.0.orders g l order e),
+    reached_aside machine terms many Good faithful first outside good unmoved b (with_favoured r b) p.0 refl refl refl refl (λ g l order e. p.0.orders g l order e),
     record { wants = p.1.wants; closed = p.1.closed },
   )
 
@@ -110,11 +110,11 @@ module _ {S V : Type 0} (machine : Machine S V) (terms : Terms) (many : ℕ) (Go
       let m = bound_to (last_turns machine terms hs) (if whole_leg machine terms h b == 0 then Some b else turn machine terms h (whole_leg machine terms h b) b) c is in
       last_come hs m.0 c each.1 (last_one h (whole_leg machine terms h b == 0) b m.0 each.0 p m.1) m.2
 
-  pub recorded_in_rounds : machine.flat.is_stopped first ≡ false → (r : Recorded S) → IsRecordedInRounds machine terms (begin machine terms many Good faithful first outside good unmoved) r
-      → (d : Board S) × Reached machine terms many Good faithful first outside good unmoved d × Agrees machine terms many Good faithful first outside good unmoved d × (comes_to machine terms d ≡ r)
-  recorded_in_rounds running r is =
+  pub recorded_in_rounds : IsFresh machine terms many Good faithful first outside good unmoved sends first → (r : Recorded S) → IsRecordedInRounds machine terms (begin machine terms many Good faithful first outside good unmoved) r
+      → (d : Board S) × Reached machine terms many Good faithful first outside good unmoved sends d × Agrees machine terms many Good faithful first outside good unmoved sends d × (comes_to machine terms d ≡ r)
+  recorded_in_rounds fresh r is =
       let b = begin machine terms many Good faithful first outside good unmoved in
-      let p = rounds_come 0 is.number b is.over (reached_begin machine terms many Good faithful first outside good unmoved, closing_begin machine terms many Good faithful first outside good unmoved running) is.are_made in
+      let p = rounds_come 0 is.number b is.over (reached_begin machine terms many Good faithful first outside good unmoved fresh.1 fresh.2, closing_begin machine terms many Good faithful first outside good unmoved fresh.0) is.are_made in
       let each = subst (λ n. EachBelow many (below n)) (sym (streams_size is.over p)) (each_below many many (omega arith)) in
-      let q = last_come (harts is.over) is.over is.closed each (p, is_done machine terms many Good faithful first outside good unmoved is.over p.0 is.is_over) is.last in
+      let q = last_come (harts is.over) is.over is.closed each (p, is_done machine terms many Good faithful first outside good unmoved sends is.over p.0 is.is_over) is.last in
       (is.closed, q.0.0, agrees machine terms many Good faithful is.closed (reached_sound machine terms many Good faithful first outside good unmoved is.closed q.0.0) q.0.1 q.1, sym is.recorded)

@@ -1,6 +1,7 @@
 -- What holds of each recording of a board.
-use Rattle.std.specs.Prelude.{ℕ, ◌≡◌, ◌<◌, ◌≤◌, List, [], ◌∷◌, length, slice_get, Some}
+use Rattle.std.specs.Prelude.{ℕ, ◌≡◌, ◌+◌, ◌<◌, ◌≤◌, List, [], ◌∷◌, ◌++◌, length, slice_get, Some}
 use Rattle.rv_hart.specs.State.{Hart}
+use Rattle.outside.specs.declared.console.Asked.{Asked}
 use Rattle.log_entry.specs.Parts.{unit_of}
 use Rattle.log_entry.specs.Size.{frame_size, size_of_log}
 use Rattle.elf_image.specs.Image.{Image}
@@ -12,6 +13,7 @@ use Rattle.replay_model.specs.State.{Replay, start}
 use Rattle.replay_model.specs.Items.{IsFullOrder}
 use Rattle.replay_model.specs.Acts.{acts_of}
 use Rattle.replay_model.specs.Journal.{order_of}
+use Rattle.replay_model.specs.Inputs.{Agree}
 use Rattle.replay_model.specs.Outcome.{Done, outcome_at}
 use Rattle.turn_model.specs.Machine.{board_machine}
 use Rattle.turn_model.specs.Board.{Outside, Terms, log_with, board_at_start}
@@ -29,10 +31,19 @@ abbrev pub OfHarts : ℕ → List (ℕ × ℕ) → Type 0
 OfHarts harts [] = Unit {0}
 OfHarts harts (row ∷ list) = (row.0 < harts) × OfHarts harts list
 
+-- a recording took a first part of what console and clock had to give, and left the rest; its log agrees with what it took
+pub record HasTaken (outside : Outside) (r : Recorded FlatState) : Type 0 where
+  pub asked : List Asked
+  pub times : List ℕ
+  pub answers_are : outside.answers ≡ asked ++ r.left.answers
+  pub times_are : outside.times ≡ times ++ r.left.times
+  pub takes_are : outside.takes ≡ length (board.sent r.ended) + r.left.takes
+  pub agree : Agree board r.log r.ended asked times (board.sent r.ended)
+
 -- of a recording from a flat state: its log says the terms, has a stream for each hart, keeps to the log limit where a log of Ends
 -- alone does, and is orderly; its journal obeys it, leads to the end that is recorded, and is full; every hart has ended there, and
--- the cause agrees with it; and the journal's acts drive the flat machine to it
-pub record IsRight (terms : Terms) (first : FlatState) (r : Recorded FlatState) : Type 0 where
+-- the cause agrees with it; the journal's acts drive the flat machine to it; and the log agrees with console and clock
+pub record IsRight (terms : Terms) (outside : Outside) (first : FlatState) (r : Recorded FlatState) : Type 0 where
   pub terms_are : r.log ≡ log_with terms r.log.streams r.log.cause
   pub harts_are : length r.log.streams ≡ board.harts first
   pub size : frame_size (unit_of r.log) (length r.log.streams) ≤ terms.log_limit → size_of_log (unit_of r.log) r.log.streams ≤ terms.log_limit
@@ -42,15 +53,16 @@ pub record IsRight (terms : Terms) (first : FlatState) (r : Recorded FlatState) 
   pub obeyed : IsFullOrder board r.log (start r.log first) (order_of r.journal) end
   pub done : outcome_at board r.log end ≡ Some (Done r.ended)
   pub acts : run_from first (acts_of board r.log (start r.log first) (order_of r.journal)) ≡ Some r.ended
+  pub taken : HasTaken outside r
 
 -- so is every recording of an image by a list of turns, whatever console and clock give
 abbrev pub RecordingsAreRight : Type 0
 RecordingsAreRight = (terms : Terms) (image : Image) (harts : ℕ) (outside : Outside) (list : List (ℕ × ℕ)) (r : Recorded FlatState)
     → terms.pages ≡ image.pages → OfHarts harts list → recorded_by_list board_machine terms list (board_at_start terms harts (flat_at_start image harts) outside) ≡ Some r
-    → IsRight terms (flat_at_start image harts) r
+    → IsRight terms outside (flat_at_start image harts) r
 
 -- and every recording of it in rounds
 abbrev pub RoundsAreRight : Type 0
 RoundsAreRight = (terms : Terms) (image : Image) (harts : ℕ) (outside : Outside) (r : Recorded FlatState)
     → terms.pages ≡ image.pages → IsRecordedInRounds board_machine terms (board_at_start terms harts (flat_at_start image harts) outside) r
-    → IsRight terms (flat_at_start image harts) r
+    → IsRight terms outside (flat_at_start image harts) r

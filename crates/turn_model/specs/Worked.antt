@@ -65,12 +65,14 @@ pub record AreRecorded : Type 0 where
     journal = (0, 2) ∷ (0, 3) ∷ [];
     turns = (0, 0) ∷ (0, 2) ∷ [];
     ended = ended (3 ∷ []) true 5;
+    left = fives 0;
   })
   pub cut : by_list stopping_machine (terms_of 1 100 67108864) 1 (fives 1) ((0, 8) ∷ []) ≡ Some (record {
     log = log_of 1 100 Cut ((e.Poll 0 0 5 0 ∷ gain 0 0 0 Read [] ∷ e.End 0 ∷ []) ∷ []);
     journal = (0, 2) ∷ [];
     turns = (0, 0) ∷ (0, 0) ∷ [];
     ended = ended (0 ∷ []) false 5;
+    left = fives 0;
   })
   -- the log with a Gain would have a byte more than the log limit
   pub full : by_list stopping_machine (terms_of 1 100 100) 1 (fives 1) ((0, 8) ∷ (0, 8) ∷ []) ≡ Some (record {
@@ -78,6 +80,7 @@ pub record AreRecorded : Type 0 where
     journal = (0, 1) ∷ [];
     turns = (0, 0) ∷ [];
     ended = ended (0 ∷ []) false 5;
+    left = fives 0;
   })
   -- the console takes no byte
   pub fault : by_list sending_machine (terms_of 1 100 67108864) 1 (fives 1) ((0, 8) ∷ (0, 8) ∷ []) ≡ Some (record {
@@ -85,6 +88,7 @@ pub record AreRecorded : Type 0 where
     journal = (0, 2) ∷ (0, 2) ∷ [];
     turns = (0, 0) ∷ (0, 2) ∷ [];
     ended = ended (2 ∷ []) false 5;
+    left = fives 0;
   })
   pub no_moves : option_map seen (by_list racing_machine (terms_of 2 0 67108864) 2 (fives 0) []) ≡ Some (log_of 2 0 Limit ((e.End 0 ∷ []) ∷ (e.End 0 ∷ []) ∷ []), [], first 2)
   pub race : option_map seen (by_list racing_machine (terms_of 2 8 67108864) 2 (fives 2) race_list) ≡ Some (race_log, race_journal, ended (8 ∷ 8 ∷ []) false 5)

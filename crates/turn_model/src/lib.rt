@@ -10,8 +10,8 @@ pub fn worked_recordings()
     ensures { AreRecorded }
 {}
 
-/// By whatever list of turns or in rounds a board is recorded, the log is orderly, and the journal is a full order of
-/// it and a run of the flat machine to the end.
+/// By whatever list of turns or in rounds a board is recorded, the log is orderly and agrees with console and clock,
+/// and the journal is a full order of it and a run of the flat machine to the end, which is done there.
 pub fn recordings_are_right()
     ensures list { RecordingsAreRight }
     ensures rounds { RoundsAreRight }
