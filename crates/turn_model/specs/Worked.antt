@@ -13,6 +13,7 @@ use Rattle.replay_model.specs.Worked.{Scripted, first, ended, stopping, racing, 
 use Rattle.turn_model.specs.Machine.{Machine}
 use Rattle.turn_model.specs.Board.{Outside, Terms, board_at_start}
 use Rattle.turn_model.specs.Lists.{Recorded, recorded_by_list}
+use Rattle.turn_model.specs.Rounds.{IsRecordedInRounds}
 
 -- a hart that stores 7 to STOP in its third move
 abbrev pub stopping_machine : Machine Scripted ℕ
@@ -55,6 +56,36 @@ by_list machine terms harts outside list = recorded_by_list machine terms list (
 abbrev pub race_list : List (ℕ × ℕ)
 race_list = (0, 8) ∷ (1, 8) ∷ (0, 8) ∷ (1, 8) ∷ (0, 2) ∷ (1, 2) ∷ (0, 8) ∷ (0, 8) ∷ (1, 8) ∷ (1, 8) ∷ []
 
+-- the race in rounds: harts are favoured in turn
+abbrev pub round_log : Log
+round_log = log_of 2 8 Limit (
+    (e.Poll 0 0 5 0 ∷ gain 0 0 0 Read [] ∷ gain 1 1 1 Read [] ∷ gain 3 1 3 Write (from 1 3 ∷ []) ∷ e.Yield 8 1 4 None ∷ e.End 8 ∷ [])
+    ∷ (e.Poll 0 1 5 0 ∷ gain 0 0 1 Read [] ∷ gain 1 1 0 Read [] ∷ e.Yield 3 1 2 None ∷ gain 3 1 5 Write (from 0 8 ∷ []) ∷ e.End 8 ∷ [])
+    ∷ [])
+
+abbrev pub round_journal : List (ℕ × ℕ)
+round_journal = (0, 2) ∷ (1, 2) ∷ (1, 2) ∷ (0, 2) ∷ (0, 2) ∷ (1, 3) ∷ (0, 1) ∷ (0, 6) ∷ (1, 1) ∷ (1, 5) ∷ []
+
+abbrev pub round_turns : List (ℕ × ℕ)
+round_turns = (0, 0) ∷ (1, 0) ∷ (1, 1) ∷ (0, 1) ∷ (0, 2) ∷ (1, 2) ∷ (0, 0) ∷ (0, 5) ∷ (1, 0) ∷ (0, 0) ∷ (1, 5) ∷ (0, 0) ∷ (0, 0) ∷ []
+
+-- hart 0 wants page 0 of hart 1 and hart 2 page 1: once hart 1 yielded page 0, from which it fetches, it claims nothing behind that
+-- page, and yields page 1 too
+abbrev pub claiming_needs : ℕ → ℕ → List (ℕ × Mode)
+claiming_needs zero count = (0, Read) ∷ (0, Write) ∷ []
+claiming_needs (suc zero) count = (0, Read) ∷ (1, Write) ∷ []
+claiming_needs h count = (0, Read) ∷ (1, Read) ∷ []
+
+abbrev pub claiming_machine : Machine Scripted ℕ
+claiming_machine = record { flat = record racing { need = λ s h. claiming_needs h (slice_index s.counts h) }; access = λ s h. None }
+
+abbrev pub claiming_log : Log
+claiming_log = log_of 2 1 Cut (
+    (e.Poll 0 2 5 0 ∷ gain 0 0 2 Read [] ∷ e.End 0 ∷ [])
+    ∷ (e.Poll 0 0 5 0 ∷ gain 0 0 0 Read [] ∷ gain 0 1 0 Write [] ∷ e.Yield 0 0 3 None ∷ e.Yield 0 1 1 (Some Read) ∷ e.End 0 ∷ [])
+    ∷ (e.Poll 0 1 5 0 ∷ gain 0 0 1 Read [] ∷ e.End 0 ∷ [])
+    ∷ [])
+
 -- the log, the journal and the end of a recording
 abbrev pub seen : Recorded Scripted → Log × List (ℕ × ℕ) × Scripted
 seen r = (r.log, r.journal, r.ended)
@@ -93,3 +124,18 @@ pub record AreRecorded : Type 0 where
   pub no_moves : option_map seen (by_list racing_machine (terms_of 2 0 67108864) 2 (fives 0) []) ≡ Some (log_of 2 0 Limit ((e.End 0 ∷ []) ∷ (e.End 0 ∷ []) ∷ []), [], first 2)
   pub race : option_map seen (by_list racing_machine (terms_of 2 8 67108864) 2 (fives 2) race_list) ≡ Some (race_log, race_journal, ended (8 ∷ 8 ∷ []) false 5)
   pub written_code : option_map (λ r. r.log) (by_list writing_machine (terms_of 1 12 67108864) 2 (fives 2) writing_list) ≡ Some writing_log
+  -- a claim is read anew before each Yield
+  pub claims : by_list claiming_machine (terms_of 2 1 67108864) 3 (fives 3) ((1, 1) ∷ (2, 1) ∷ (0, 3) ∷ (1, 0) ∷ []) ≡ Some (record {
+    log = claiming_log;
+    journal = (1, 3) ∷ (2, 2) ∷ (0, 2) ∷ (1, 2) ∷ [];
+    turns = (1, 0) ∷ (2, 0) ∷ (0, 0) ∷ (1, 0) ∷ (0, 0) ∷ (1, 0) ∷ (2, 0) ∷ [];
+    ended = ended (0 ∷ 0 ∷ 0 ∷ []) false 5;
+    left = fives 0;
+  })
+  pub in_rounds : IsRecordedInRounds racing_machine (terms_of 2 8 67108864) (board_at_start (terms_of 2 8 67108864) 2 (first 2) (fives 2)) (record {
+    log = round_log;
+    journal = round_journal;
+    turns = round_turns;
+    ended = ended (8 ∷ 8 ∷ []) false 5;
+    left = fives 0;
+  })
