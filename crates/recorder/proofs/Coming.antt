@@ -110,6 +110,7 @@ comes image limit log_limit o p s cause log final whole ends log_is final_is =
     let most = went.log_limit in
     record {
       run = record {
+        whole = whole;
         items = went.goes.0;
         end = recording_of s;
         recorded = record {

@@ -2,7 +2,7 @@
 use Rattle.std.specs.Prelude.{ℕ, ◌≡◌, ◌≤◌, true, List, ◌++◌, map, filter_map, IsTrue}
 use Rattle.outside.specs.declared.console.Asked.{Asked}
 use Rattle.device_board.specs.Recording.{input_of}
-use Rattle.elf_image.specs.Image.{Image, start_digest}
+use Rattle.elf_image.specs.Image.{Image, IsWhole, start_digest}
 use Rattle.flat_machine.specs.State.{FlatState, flat_at_start}
 use Rattle.flat_machine.specs.Runs.{final_of}
 use Rattle.flat_machine.specs.declared.results.Final.{Final}
@@ -20,6 +20,7 @@ use Rattle.recorder.specs.Turns.{Ends, FaultsOf}
 
 -- items that are recorded one after another from the image's start, until the run ends with the log's cause
 pub record RecordsRun (image : Image) (limit log_limit : ℕ) (log : Log) (ended : Final) : Type 0 where
+  pub whole : IsWhole image
   pub items : List Item
   pub end : Recording FlatState
   pub recorded : IsRun limit image.pages (flat_at_start image 1) items end

@@ -3,15 +3,17 @@ use Rattle.std.proofs.Common.{◌≡◌, ℕ, ◌==◌, ◌&&◌, not, Bool, tru
 use Rattle.std.proofs.lemmas.Bool.{eq-eqb, ne_eqb}
 use Rattle.rv_words.specs.declared.shared.Cause.{Cause}
 use Rattle.rv_words.specs.declared.shared.Cause.TheVariants as causes
-use Rattle.elf_image.specs.Image.{Image, start_digest}
+use Rattle.elf_image.specs.Image.{Image, IsWhole, start_digest}
 use Rattle.elf_image.specs.Loading.{image_of}
 use Rattle.elf_image.specs.Rules.{broken_rule}
 use Rattle.flat_machine.specs.State.{FlatState, flat_at_start}
+use Rattle.flat_machine.specs.Runs.{flat}
 use Rattle.flat_machine.specs.declared.results.Final.{Final}
 use Rattle.log_entry.specs.declared.log.Log.{Log}
 use Rattle.log_entry.specs.Parts.{unit_of}
 use Rattle.log_entry.specs.Size.{size_of_log}
-use Rattle.log_format.specs.Grammar.{spelling}
+use Rattle.log_entry.specs.Room.{log_without_room}
+use Rattle.log_format.specs.Grammar.{spelling, reading}
 use Rattle.report_view.specs.Report.{report}
 use Rattle.outside.specs.Causes.{Rose}
 use Rattle.order_rules.specs.Orderly.{IsOrderly}
@@ -19,7 +21,9 @@ use Rattle.replay_model.specs.Board.{board}
 use Rattle.replay_model.specs.State.{Replay, start}
 use Rattle.replay_model.specs.Items.{IsFullOrder, Obeys, Item}
 use Rattle.replay_model.specs.Outcome.{Done, IsOutcome, cause_agrees, same}
+use Rattle.replay_model.specs.Acts.{acts_of}
 use Rattle.replay_model.proofs.Driving.{orders_drive}
+use Rattle.replay_law.proofs.Orders.{all_orders_agree}
 use Rattle.solo_recording.specs.Lone.{IsLone}
 use Rattle.solo_recording.specs.Recording.{Recording, log_of_recording}
 use Rattle.solo_recording.specs.Laws.{IsRun}
@@ -68,11 +72,23 @@ is_replayed limit log_limit image cause items r run ends =
 obeys : (log : Log) (s t : Replay FlatState) (order : List ℕ) → IsFullOrder board log s order t → Obeys board log s order t
 obeys log s t order full = (full.0, full.1, full.2.leads)
 
+-- every full order that obeys a log leads from an image's start to this end, and so do its acts
+abbrev IsEvery : Log → Image → Replay FlatState → Type 0
+IsEvery log image end = (order : List ℕ) (t : Replay FlatState) → IsFullOrder board log (start log (flat_at_start image 1)) order t
+    → (t ≡ end) × (flat image 1 (acts_of board log (start log (flat_at_start image 1)) order) ≡ Some end.flat)
+
+every : (limit : ℕ) (image : Image) (cause : Cause) (items : List Item) (r : Recording FlatState) → IsRun limit image.pages (flat_at_start image 1) items r → IsWhole image
+    → IsEvery (log_of_recording board limit image.pages (start_digest image) cause r) image r.at
+every limit image cause items r run whole order t full =
+    let log = log_of_recording board limit image.pages (start_digest image) cause r in
+    let agree = all_orders_agree log image order (replicate (length items) 0) t r.at (record { orderly = is_orderly limit image cause items r run; whole = whole; pages = refl }) full (is_full limit image cause items r run) in
+    (agree.0, orders_drive log (start log (flat_at_start image 1)) t order (obeys log (start log (flat_at_start image 1)) t order full) ∙ ap (λ x. Some x.flat) agree.0)
+
 keeps : (w : Wish) (file : List ℕ) (log : Log) (ended : Final) (text : List ℕ) (fault : Bool) (s t : Shelf) (o p : Outside)
     → IsFetched w s file → broken_rule w.pages file ≡ None → Comes (image_of w.pages file) w.limit w.log_limit o p log ended
-    → HoldsNow w (spelling log) (ended.memory ++ ended.sent) s t → length (spelling log) ≡ size_of_log (unit_of log) log.streams → text ≡ report ended → fault ≡ is_fault ended.cause
+    → HoldsNow w (spelling log) (ended.memory ++ ended.sent) s t → length (spelling log) ≡ size_of_log (unit_of log) log.streams → reading (spelling log) ≡ Ok (log_without_room log) → text ≡ report ended → fault ≡ is_fault ended.cause
     → Keeps w text fault s t o p
-keeps w file log ended text fault s t o p fetched accepted comes holds long told fault_is =
+keeps w file log ended text fault s t o p fetched accepted comes holds long again told fault_is =
     let run = comes.run in
     let size = run.size in
     let full = subst (λ l. IsFullOrder board l (start l (flat_at_start (image_of w.pages file) 1)) (replicate (length run.items) 0) run.end.at) (sym run.log_is) (is_full w.limit (image_of w.pages file) log.cause run.items run.end run.recorded) in
@@ -93,9 +109,10 @@ keeps w file log ended text fault s t o p fetched accepted comes holds long told
       comes = subst (λ e. Comes (image_of w.pages file) w.limit w.log_limit o p log e) run.ended_is comes;
       items = length run.items;
       full = full;
-      drives = orders_drive log (start log (flat_at_start (image_of w.pages file) 1)) run.end.at (replicate (length run.items) 0) (obeys log (start log (flat_at_start (image_of w.pages file) 1)) run.end.at (replicate (length run.items) 0) full);
+      every = subst (λ l. IsEvery l (image_of w.pages file) run.end.at) (sym run.log_is) (every w.limit (image_of w.pages file) log.cause run.items run.end run.recorded run.whole);
       replayed = subst (λ l. IsOutcome board l (flat_at_start (image_of w.pages file) 1) (Done run.end.at.flat)) (sym run.log_is) (is_replayed w.limit w.log_limit (image_of w.pages file) log.cause run.items run.end run.recorded run.ends);
       within = omega (arith, long, size);
+      again = again;
       kept = subst (λ e. HoldsNow w (spelling log) (e.memory ++ e.sent) s t) run.ended_is holds;
       reported = told ∙ ap report run.ended_is;
       fault_is = fault_is ∙ ap (λ e. is_fault e.cause) run.ended_is;
@@ -143,7 +160,7 @@ records w s m t o p image log ended ShelfFault read tells comes kept =
     })
 records w s m t o p image log ended (Recorded text fault) read tells comes kept =
     let file = read.1 in
-    keeps w file.0 log ended text.items fault s t o p file.1 file.2 (subst (λ i. Comes i w.limit w.log_limit o p log ended) file.3 comes) (holds_since w (spelling log) (ended.memory ++ ended.sent) s m t read.0 tells kept.0) kept.1 kept.2 kept.3
+    keeps w file.0 log ended text.items fault s t o p file.1 file.2 (subst (λ i. Comes i w.limit w.log_limit o p log ended) file.3 comes) (holds_since w (spelling log) (ended.memory ++ ended.sent) s m t read.0 tells kept.0) kept.1 kept.2 kept.3 kept.4
 records w s m t o p image log ended (Usage place) read tells comes kept = absurd kept
 records w s m t o p image log ended NotBuilt read tells comes kept = absurd kept
 records w s m t o p image log ended TooLong read tells comes kept = absurd kept

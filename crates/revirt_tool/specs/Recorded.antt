@@ -10,7 +10,8 @@ use Rattle.flat_machine.specs.Runs.{flat, final_of}
 use Rattle.log_entry.specs.declared.log.Entry.{Entry}
 use Rattle.log_entry.specs.declared.log.Entry.TheVariants.{End}
 use Rattle.log_entry.specs.declared.log.Log.{Log}
-use Rattle.log_format.specs.Grammar.{spelling}
+use Rattle.log_entry.specs.Room.{log_without_room}
+use Rattle.log_format.specs.Grammar.{spelling, reading}
 use Rattle.order_rules.specs.Orderly.{IsOrderly}
 use Rattle.replay_model.specs.Board.{board}
 use Rattle.replay_model.specs.State.{Replay, start}
@@ -78,9 +79,10 @@ pub record HoldsNow (w : Wish) (log dump : List ℕ) (s t : Shelf) : Type 0 wher
   pub others : IsTrue t.tells → (n : List ℕ) → n ≢ w.log → w.dump ≢ Some n → t.held n ≡ s.held n
   pub faults : t.faults ≡ s.faults
 
--- A run was recorded of the image, and its log is kept. The log is orderly. The order that names hart 0 once per item obeys it,
--- is full, and drives the flat machine from the image's start to the state that is reported, and a replay of the log is done
--- there. What console and clock answered, and the bytes that the console took, are those of the log and of that state.
+-- A run was recorded of the image, and its log is kept. The log is orderly, and is read again from what is kept. The order that
+-- names hart 0 once per item obeys it and is full, and every full order that obeys it drives the flat machine from the image's
+-- start to the state that is reported; a replay of the log is done there. What console and clock answered, and the bytes that the
+-- console took, are those of the log and of that state.
 pub record Keeps (w : Wish) (text : List ℕ) (fault : Bool) (s t : Shelf) (o p : Outside) : Type 0 where
   pub file : List ℕ
   pub fetched : IsFetched w s file
@@ -93,9 +95,11 @@ pub record Keeps (w : Wish) (text : List ℕ) (fault : Bool) (s t : Shelf) (o p 
   pub orderly : IsOrderly log
   pub items : ℕ
   pub full : IsFullOrder board log (start log (flat_at_start (image_of w.pages file) 1)) (replicate items 0) end
-  pub drives : flat (image_of w.pages file) 1 (acts_of board log (start log (flat_at_start (image_of w.pages file) 1)) (replicate items 0)) ≡ Some end.flat
+  pub every : (order : List ℕ) (t : Replay FlatState) → IsFullOrder board log (start log (flat_at_start (image_of w.pages file) 1)) order t
+      → (t ≡ end) × (flat (image_of w.pages file) 1 (acts_of board log (start log (flat_at_start (image_of w.pages file) 1)) order) ≡ Some end.flat)
   pub replayed : IsOutcome board log (flat_at_start (image_of w.pages file) 1) (Done end.flat)
   pub kept : HoldsNow w (spelling log) (end.flat.memory ++ end.flat.devices.sent) s t
   pub within : length (spelling log) ≤ w.log_limit
+  pub again : reading (spelling log) ≡ Ok (log_without_room log)
   pub reported : text ≡ report (final_of end.flat log.cause)
   pub fault_is : fault ≡ is_fault log.cause

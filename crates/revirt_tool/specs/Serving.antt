@@ -10,7 +10,8 @@ use Rattle.flat_machine.specs.declared.results.Final.{Final}
 use Rattle.log_entry.specs.declared.log.Log.{Log}
 use Rattle.log_entry.specs.Parts.{unit_of}
 use Rattle.log_entry.specs.Size.{size_of_log}
-use Rattle.log_format.specs.Grammar.{spelling}
+use Rattle.log_entry.specs.Room.{log_without_room}
+use Rattle.log_format.specs.Grammar.{spelling, reading}
 use Rattle.report_view.specs.Report.{report}
 use Rattle.recorder.specs.Kept.{Comes}
 use Rattle.recorder.specs.Outside.{Outside}
@@ -79,7 +80,7 @@ abbrev pub KeepsAs : Wish → Log → Final → Shelf → Shelf → Ending → T
 KeepsAs w log ended s t NoMemory = IsUntouched s t
 KeepsAs w log ended s t ShelfFault = FailsToKeep w (spelling log) s t
 KeepsAs w log ended s t (Recorded text fault) =
-    HoldsNow w (spelling log) (ended.memory ++ ended.sent) s t × (length (spelling log) ≡ size_of_log (unit_of log) log.streams) × (text.items ≡ report ended) × (fault ≡ is_fault ended.cause)
+    HoldsNow w (spelling log) (ended.memory ++ ended.sent) s t × (length (spelling log) ≡ size_of_log (unit_of log) log.streams) × (reading (spelling log) ≡ Ok (log_without_room log)) × (text.items ≡ report ended) × (fault ≡ is_fault ended.cause)
 KeepsAs w log ended s t ending = ⊥
 
 -- how a recording ends
