@@ -39,7 +39,7 @@ has_hart (act.Poll h time) f t did = let x = bound_to (poll_made f h time) (slic
 has_hart (act.Lose h) f t did = let x = mapped (lost f h) (slice_get f.harts h) t did in (x.0, x.1)
 
 -- an act that isn't on the devices leaves them, whatever they are
-calm : (r : Run) (a : Act) (d : Devices) (q : Run × Devices) → is_on_devices a ≡ false → deed r a d ≡ Some q → q.1 ≡ d
+pub calm : (r : Run) (a : Act) (d : Devices) (q : Run × Devices) → is_on_devices a ≡ false → deed r a d ≡ Some q → q.1 ≡ d
 calm r (act.Run h) d q off is = sym (ap (λ (z : Run × Devices). z.1) (same_Some _ _ is))
 calm r (act.Touch h input) d q off is = absurd (true≢false off)
 calm r (act.Poll h time) d q off is = absurd (true≢false off)

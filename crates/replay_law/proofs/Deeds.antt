@@ -40,14 +40,14 @@ use Rattle.replay_law.proofs.Local.{actor, HasPages}
 use Rattle.replay_law.proofs.Judged.{nothing}
 use Rattle.replay_law.proofs.Views.{Sound, on_board}
 
-abbrev touched_run : Run → ℕ → Devices × ℕ → Run × Devices
+abbrev pub touched_run : Run → ℕ → Devices × ℕ → Run × Devices
 touched_run r h x = (record r { hart = with_lines_of x.0 h (after r.hart (move_held r) x.1); count = r.count + 1 }, x.0)
 
-abbrev polled_run : Run → ℕ → Devices → Run × Devices
+abbrev pub polled_run : Run → ℕ → Devices → Run × Devices
 polled_run r h d = (record r { hart = with_lines_of d h r.hart }, d)
 
 -- the answer of the devices to the access of the next move
-abbrev answered : Run → Input → Devices → Option (Devices × ℕ)
+abbrev pub answered : Run → Input → Devices → Option (Devices × ℕ)
 answered r input d = option_and_then (λ access. touched d access input) (access_of (need_of (move_held r)))
 
 -- what a hart and the devices become by an act

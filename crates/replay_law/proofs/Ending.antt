@@ -72,7 +72,7 @@ pub record IsDue (n : ℕ) (o : Option Entry) (e : Entry) : Type 0 where
   pub count : count_of e ≡ n
   pub goes_on : is_end e ≡ false
 
-makes_means : (n : ℕ) (o : Option Entry) (e : Entry) → item_at n o ≡ Makes e → IsDue n o e
+pub makes_means : (n : ℕ) (o : Option Entry) (e : Entry) → item_at n o ≡ Makes e → IsDue n o e
 makes_means n None e is = absurd (none-some _ (ap makes_in is))
 makes_means n (Some x) e is = by (count_of x == n) (is_end x) refl refl is where
   by : (a b : Bool) → (count_of x == n) ≡ a → is_end x ≡ b → (if not a then Move else if b then Ended else Makes x) ≡ Makes e → IsDue n (Some x) e
@@ -127,7 +127,7 @@ module _ (log : Log) (image : Image) (is : IsReplayable log image) where
     pub places : length s.cursor.places ≡ length log.streams
     pub behind : (h : ℕ) → h < length log.streams → Behind s h
 
-  going_first : Going (first_replay log image)
+  pub going_first : Going (first_replay log image)
   going_first =
       let n = length log.streams in
       record {
@@ -193,7 +193,7 @@ module _ (log : Log) (image : Image) (is : IsReplayable log image) where
     pub own : board.count a.flat h ≡ item_count item (board.count s.flat h)
     pub others : (g : ℕ) → g ≢ h → board.count a.flat g ≡ board.count s.flat g
 
-  goes : (s a : Replay FlatState) (h : ℕ) (w : Option (List Step)) → Going s → step board log h s ≡ Some (a, w) → Goes s a h
+  pub goes : (s a : Replay FlatState) (h : ℕ) (w : Option (List Step)) → Going s → step board log h s ≡ Some (a, w) → Goes s a h
   goes s a h w going did =
       let x = step_went board log s a h w did in
       let sound = going.good.sound in
@@ -207,7 +207,7 @@ module _ (log : Log) (image : Image) (is : IsReplayable log image) where
         others = λ g n. (finds_after board (Fits (length log.streams) (units_of log)) (length log.streams) (units_of log) (board_local (length log.streams) (units_of log)) s h g x.item a.flat sound n x.go x.flat_is).count;
       }
 
-  going_lasts : (s a : Replay FlatState) (h : ℕ) (w : Option (List Step)) → Going s → step board log h s ≡ Some (a, w) → Going a
+  pub going_lasts : (s a : Replay FlatState) (h : ℕ) (w : Option (List Step)) → Going s → step board log h s ≡ Some (a, w) → Going a
   going_lasts s a h w going did =
       let x = goes s a h w going did in
       let inside : h < length s.cursor.places = (let l = x.inside in let p = going.places in omega (arith, l, p)) in
@@ -227,7 +227,7 @@ module _ (log : Log) (image : Image) (is : IsReplayable log image) where
   abbrev progress : Replay FlatState → ℕ
   progress s = total s.cursor.places + total s.flat.counts
 
-  abbrev bound : ℕ
+  abbrev pub bound : ℕ
   bound = total (map length log.streams) + total (map most log.streams)
 
   counts_size : (s : Replay FlatState) → Going s → length s.flat.counts ≡ length log.streams
@@ -321,7 +321,7 @@ module _ (log : Log) (image : Image) (is : IsReplayable log image) where
     full = record { leads = refl; over = λ h. elim (cases_lt h (length log.streams)) [ inl l ↦ none h l | inr m ↦ no_more log image is h s going.good m ] };
   }
 
-  full_in : (n : ℕ) (s : Replay FlatState) → Going s → bound ≤ progress s + n → FullFrom s
+  pub full_in : (n : ℕ) (s : Replay FlatState) → Going s → bound ≤ progress s + n → FullFrom s
   full_in zero s going enough = elim (search_below s (length log.streams)) [
     | inr none ↦ stopped s going none
     | inl can ↦

@@ -37,15 +37,15 @@ pub nothing : {X : Type 0} (o : Option X) → is_some o ≡ false → o ≡ None
 nothing None e = refl
 nothing (Some x) e = absurd (true≢false e)
 
-met : (b : Bool) (v : Verdict) → (if b then v else Holds) ≡ CanGo → (b ≡ true) × (v ≡ CanGo)
+pub met : (b : Bool) (v : Verdict) → (if b then v else Holds) ≡ CanGo → (b ≡ true) × (v ≡ CanGo)
 met true v e = (refl, e)
 met false v e = absurd (true≢false (ap holds_back e))
 
 module _ {S V : Type 0} (flat : Flat S V) where
-  abbrev judge : List (ℕ × Bool) → Verdict
+  abbrev pub judge : List (ℕ × Bool) → Verdict
   judge xs = judged flat (option_map (λ (t : ℕ × Bool). t.0) (find (λ (t : ℕ × Bool). t.1) xs))
 
-  passed : (k : ℕ) (b : Bool) (xs : List (ℕ × Bool)) → judge ((k, b) ∷ xs) ≡ CanGo → (b ≡ false) × (judge xs ≡ CanGo)
+  pub passed : (k : ℕ) (b : Bool) (xs : List (ℕ × Bool)) → judge ((k, b) ∷ xs) ≡ CanGo → (b ≡ false) × (judge xs ≡ CanGo)
   passed k true xs e = absurd (true≢false (ap diverges e))
   passed k false xs e = (refl, e)
 

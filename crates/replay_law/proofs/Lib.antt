@@ -17,3 +17,6 @@ pub mod Watched
 pub mod Streams
 pub mod Totals
 pub mod Ending
+pub mod Times
+pub mod Timely
+pub mod Outcomes

@@ -1,5 +1,5 @@
 -- What the replays of an orderly log have in common.
-use Rattle.std.specs.Prelude.{ℕ, ◌≡◌, ◌≢◌, ◌==◌, List, filter, length, Option, Some}
+use Rattle.std.specs.Prelude.{ℕ, ◌≡◌, ◌≢◌, ◌<◌, ◌==◌, List, filter, length, Option, Some}
 use Rattle.log_entry.specs.declared.log.Log.{Log}
 use Rattle.elf_image.specs.Image.{Image, IsWhole}
 use Rattle.flat_machine.specs.State.{FlatState, flat_at_start}
@@ -8,7 +8,7 @@ use Rattle.orders_law.specs.Orders.{IsLeast}
 use Rattle.order_rules.specs.Orderly.{IsOrderly}
 use Rattle.replay_model.specs.Board.{board}
 use Rattle.replay_model.specs.State.{Replay, start}
-use Rattle.replay_model.specs.Items.{Obeys, IsFullOrder, step, story}
+use Rattle.replay_model.specs.Items.{CanGo, Obeys, IsFullOrder, verdict, step, story}
 use Rattle.replay_model.specs.Outcome.{Outcome, IsOutcome, outcome_at}
 use Rattle.replay_law.specs.Atomics.{atomics_along}
 
@@ -50,6 +50,11 @@ AtomicsAgree = (log : Log) (image : Image) (order other : List ℕ) (s t : Repla
     → IsFullOrder board log (first_replay log image) order s → IsFullOrder board log (first_replay log image) other t
     → atomics_along word log (first_replay log image) order ≡ atomics_along word log (first_replay log image) other
 
+-- where an order has led, a hart of the log that can go makes its item
+abbrev pub CanGoGoes : Type 0
+CanGoGoes = (log : Log) (image : Image) (order : List ℕ) (s : Replay FlatState) (h : ℕ) → IsReplayable log image → Obeys board log (first_replay log image) order s → h < length log.streams → verdict board log s h ≡ CanGo
+    → (m : Replay FlatState × Option (List Step)) × (step board log h s ≡ Some m)
+
 -- there is a full order
 abbrev pub FullOrderIsThere : Type 0
 FullOrderIsThere = (log : Log) (image : Image) → IsReplayable log image → (order : List ℕ) × ((s : Replay FlatState) × IsFullOrder board log (first_replay log image) order s)
@@ -63,3 +68,11 @@ LeastEndsThere = (log : Log) (image : Image) (order : List ℕ) (s : Replay Flat
 abbrev pub OrdersTellOutcome : Type 0
 OrdersTellOutcome = (log : Log) (image : Image) (order : List ℕ) (s : Replay FlatState) (outcome : Outcome FlatState) → IsReplayable log image → IsFullOrder board log (first_replay log image) order s
     → outcome_at board log s ≡ Some outcome → IsOutcome board log (first_flat log image) outcome
+
+-- a replay has an outcome
+abbrev pub OutcomeIsThere : Type 0
+OutcomeIsThere = (log : Log) (image : Image) → IsReplayable log image → (outcome : Outcome FlatState) × IsOutcome board log (first_flat log image) outcome
+
+-- and no other
+abbrev pub OutcomeIsOne : Type 0
+OutcomeIsOne = (log : Log) (first : FlatState) (outcome other : Outcome FlatState) → IsOutcome board log first outcome → IsOutcome board log first other → outcome ≡ other
