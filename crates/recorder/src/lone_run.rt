@@ -206,7 +206,9 @@ impl LoneRun {
         }
     }
 
-    /// Moves up to a count, as long as the next move needs only pages that are held and is no device access.
+    /// Moves up to a count, as long as the next move needs only pages that are held and is no device access. It is
+    /// compiled by itself, so that its speed does not hang on what surrounds it.
+    #[inline(never)]
     pub(crate) fn advance(&mut self, until: u64) -> Stepped
         requires { self.old.count ≤ until }
         ensures leg { Leg until self.old self.new result }
