@@ -27,5 +27,6 @@ are_recorded = record {
   race = refl;
   written_code = refl;
   claims = refl;
+  favour = refl;
   in_rounds = record { number = 5; over = behind_rounds; closed = at_end; are_made = refl; is_over = refl; last = refl; recorded = refl };
 }

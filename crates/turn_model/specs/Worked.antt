@@ -86,6 +86,24 @@ claiming_log = log_of 2 1 Cut (
     ∷ (e.Poll 0 1 5 0 ∷ gain 0 0 1 Read [] ∷ e.End 0 ∷ [])
     ∷ [])
 
+-- harts 1 and 2 store in the page of the code in their first moves, and wait for one another as the favour goes round
+abbrev pub favour_needs : ℕ → ℕ → List (ℕ × Mode)
+favour_needs (suc h) zero = (0, Read) ∷ (0, Write) ∷ []
+favour_needs h count = (0, Read) ∷ []
+
+abbrev pub favour_machine : Machine Scripted ℕ
+favour_machine = record { flat = record racing { need = λ s h. favour_needs h (slice_index s.counts h) }; access = λ s h. None }
+
+abbrev pub favour_list : List (ℕ × ℕ)
+favour_list = (1, 2) ∷ (0, 3) ∷ (0, 1) ∷ (1, 3) ∷ (1, 0) ∷ (2, 3) ∷ (0, 0) ∷ (2, 1) ∷ (2, 0) ∷ (1, 2) ∷ (1, 1) ∷ (0, 1) ∷ []
+
+abbrev pub favour_log : Log
+favour_log = log_of 1 2 Cut (
+    (e.Poll 0 1 5 0 ∷ gain 0 0 4 Read [] ∷ e.Yield 1 0 6 None ∷ e.End 1 ∷ [])
+    ∷ (e.Poll 0 0 5 0 ∷ gain 0 0 0 Read [] ∷ gain 0 0 1 Write [] ∷ e.Yield 2 0 2 (Some Read) ∷ e.Yield 2 0 5 None ∷ e.End 2 ∷ [])
+    ∷ (e.Poll 0 2 5 0 ∷ gain 0 0 3 Read (from 1 2 ∷ []) ∷ e.End 0 ∷ [])
+    ∷ [])
+
 -- the log, the journal and the end of a recording
 abbrev pub seen : Recorded Scripted → Log × List (ℕ × ℕ) × Scripted
 seen r = (r.log, r.journal, r.ended)
@@ -137,5 +155,12 @@ pub record AreRecorded : Type 0 where
     journal = round_journal;
     turns = round_turns;
     ended = ended (8 ∷ 8 ∷ []) false 5;
+    left = fives 0;
+  })
+  pub favour : by_list favour_machine (terms_of 1 2 67108864) 3 (fives 3) favour_list ≡ Some (record {
+    log = favour_log;
+    journal = (1, 3) ∷ (0, 1) ∷ (1, 3) ∷ (2, 2) ∷ (0, 1) ∷ (1, 1) ∷ (0, 2) ∷ [];
+    turns = (1, 0) ∷ (0, 0) ∷ (1, 2) ∷ (2, 0) ∷ (0, 0) ∷ (2, 0) ∷ (1, 0) ∷ (0, 1) ∷ (0, 0) ∷ (1, 0) ∷ (2, 0) ∷ [];
+    ended = ended (1 ∷ 2 ∷ 0 ∷ []) false 5;
     left = fives 0;
   })
