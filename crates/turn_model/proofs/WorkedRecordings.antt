@@ -28,5 +28,6 @@ are_recorded = record {
   written_code = refl;
   claims = refl;
   favour = refl;
+  modes = refl;
   in_rounds = record { number = 5; over = behind_rounds; closed = at_end; are_made = refl; is_over = refl; last = refl; recorded = refl };
 }

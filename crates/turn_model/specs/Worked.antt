@@ -104,6 +104,26 @@ favour_log = log_of 1 2 Cut (
     ∷ (e.Poll 0 2 5 0 ∷ gain 0 0 3 Read (from 1 2 ∷ []) ∷ e.End 0 ∷ [])
     ∷ [])
 
+-- harts that want two pages in turn: a want of another page is no rival, and a claim keeps a page only in a mode that conflicts
+abbrev pub modes_needs : ℕ → ℕ → List (ℕ × Mode)
+modes_needs zero zero = (0, Read) ∷ (1, Write) ∷ []
+modes_needs h zero = (0, Read) ∷ []
+modes_needs (suc (suc h)) count = (1, Read) ∷ (0, Read) ∷ []
+modes_needs h count = (1, Read) ∷ (0, Write) ∷ []
+
+abbrev pub modes_machine : Machine Scripted ℕ
+modes_machine = record { flat = record racing { need = λ s h. modes_needs h (slice_index s.counts h) }; access = λ s h. None }
+
+abbrev pub modes_list : List (ℕ × ℕ)
+modes_list = (1, 1) ∷ (0, 2) ∷ (0, 3) ∷ (2, 1) ∷ (0, 0) ∷ (1, 1) ∷ (0, 3) ∷ (2, 3) ∷ (2, 0) ∷ (1, 0) ∷ (2, 3) ∷ []
+
+abbrev pub modes_log : Log
+modes_log = log_of 2 2 Cut (
+    (e.Poll 0 1 5 0 ∷ gain 0 0 1 Read [] ∷ gain 0 1 0 Write [] ∷ e.Yield 1 1 1 (Some Read) ∷ e.End 1 ∷ [])
+    ∷ (e.Poll 0 0 5 0 ∷ gain 0 0 0 Read [] ∷ e.Yield 1 0 3 None ∷ gain 1 1 3 Read [] ∷ e.End 1 ∷ [])
+    ∷ (e.Poll 0 2 5 0 ∷ gain 0 0 2 Read [] ∷ e.Yield 1 0 4 None ∷ gain 1 1 2 Read (from 0 1 ∷ []) ∷ e.End 1 ∷ [])
+    ∷ [])
+
 -- the log, the journal and the end of a recording
 abbrev pub seen : Recorded Scripted → Log × List (ℕ × ℕ) × Scripted
 seen r = (r.log, r.journal, r.ended)
@@ -162,5 +182,12 @@ pub record AreRecorded : Type 0 where
     journal = (1, 3) ∷ (0, 1) ∷ (1, 3) ∷ (2, 2) ∷ (0, 1) ∷ (1, 1) ∷ (0, 2) ∷ [];
     turns = (1, 0) ∷ (0, 0) ∷ (1, 2) ∷ (2, 0) ∷ (0, 0) ∷ (2, 0) ∷ (1, 0) ∷ (0, 1) ∷ (0, 0) ∷ (1, 0) ∷ (2, 0) ∷ [];
     ended = ended (1 ∷ 2 ∷ 0 ∷ []) false 5;
+    left = fives 0;
+  })
+  pub modes : by_list modes_machine (terms_of 2 2 67108864) 3 (fives 3) modes_list ≡ Some (record {
+    log = modes_log;
+    journal = (1, 2) ∷ (0, 3) ∷ (0, 1) ∷ (2, 2) ∷ (1, 2) ∷ (0, 1) ∷ (2, 3) ∷ (1, 1) ∷ [];
+    turns = (1, 0) ∷ (0, 0) ∷ (0, 1) ∷ (2, 0) ∷ (1, 1) ∷ (0, 0) ∷ (2, 1) ∷ (1, 0) ∷ (0, 0) ∷ (1, 0) ∷ (2, 0) ∷ [];
+    ended = ended (1 ∷ 1 ∷ 1 ∷ []) false 5;
     left = fives 0;
   })
