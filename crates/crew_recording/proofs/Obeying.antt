@@ -1,5 +1,5 @@
 -- The items of a recording are those of its log, in their order.
-use Rattle.std.proofs.Common.{◌≡◌, ◌≢◌, ℕ, zero, suc, ◌+◌, ◌<◌, ◌≤◌, ◌==◌, ◌&&◌, Bool, true, false, not, ◌⊎◌, List, [], ◌∷◌, ◌++◌, length, map, Option, Some, None, slice_get, slice_index, refl, sym, ap, ap₂, ◌∙◌, subst, inl, inr, ⊎_elim, arith, if◌then◌else◌, append_assoc, append-nil, unwrap_or}
+use Rattle.std.proofs.Common.{IsSomeAnd, ◌≡◌, ◌≢◌, ℕ, zero, suc, ◌+◌, ◌<◌, ◌≤◌, ◌==◌, ◌&&◌, Bool, true, false, not, ◌⊎◌, List, [], ◌∷◌, ◌++◌, length, map, Option, Some, None, slice_get, slice_index, refl, sym, ap, ap₂, ◌∙◌, subst, inl, inr, ⊎_elim, arith, if◌then◌else◌, append_assoc, append-nil, unwrap_or}
 use Rattle.std.specs.List.{list_all, enumerate_from}
 use Rattle.std.specs.Option.{option_map}
 use Rattle.std.proofs.lemmas.List.FromFn.{length-enumerate_from}
@@ -18,6 +18,7 @@ use Rattle.order_rules.specs.Cursor.{first_left}
 use Rattle.replay_model.specs.Flat.{Flat}
 use Rattle.replay_model.specs.State.{Replay}
 use Rattle.replay_model.specs.Items.{Item, Ended, Move, Makes, Verdict, HasEnded, Holds, CanGo, HasDiverged, item_at, verdict_on, made, told_of, goes, next_item, verdict, step}
+use Rattle.replay_model.specs.Journal.{Throughout}
 use Rattle.replay_model.specs.Outcome.{is_ended, all_ended}
 use Rattle.solo_recording.proofs.Prefix.{at_snoc, at_front, at_end}
 use Rattle.crew_recording.specs.Recording.{Recording, IsSteady, IsRecorded, Records, Stands, with_item, stream_in, log_of_recording}
@@ -32,6 +33,11 @@ map_size f (x ∷ xs) = ap suc (map_size f xs)
 pub all_below : (test : ℕ → Bool) (n : ℕ) → ((h : ℕ) → h < n → test h ≡ true) → list_all test (below n) ≡ true
 all_below test zero each = refl
 all_below test (suc n) each = list_all-append test (below n) (n ∷ []) ∙ ap₂ (λ a b. a && (b && true)) (all_below test n (λ h l. each h (omega (arith, l)))) (each n (omega arith))
+
+-- this holds of each item where it is made
+abbrev pub EachMade : {S V : Type 0} (flat : Flat S V) (P : Replay S → ℕ → Item → Type 0) (r s : Recording S) (items : List (ℕ × Item)) → Records flat r items s → Type 0
+EachMade flat P r s [] is = Unit {0}
+EachMade flat P r s (x ∷ items) is = P r.at x.0 x.1 × EachMade flat P is.0 s items is.2
 
 module _ {S V : Type 0} (flat : Flat S V) (harts : ℕ) (Good : S → Type 0) (steady : IsSteady flat harts Good) where
   pub tidy_all : (r s : Recording S) (items : List (ℕ × Item)) → Records flat r items s → IsTidy flat harts Good steady r → IsTidy flat harts Good steady s
@@ -177,6 +183,16 @@ module _ {S V : Type 0} (flat : Flat S V) (harts : ℕ) (Good : S → Type 0) (s
     leads : (r s : Recording S) (items : List (ℕ × Item)) (is : Records flat r items s) → IsTidy flat harts Good steady r → Leads (step flat (log_to s)) r.at (told r s items is) s.at
     leads r s [] is tidy = ap (λ (x : Recording S). x.at) is
     leads r s (x ∷ items) is tidy = (is.0.at, steps r is.0 s x.0 x.1 items tidy is.1 is.2, leads is.0 s items is.2 (tidy_item flat harts Good steady r is.0 x.0 x.1 tidy is.1))
+
+    -- what holds of each item where it is made holds of the items along the order
+    pub throughout : (P : Replay S → ℕ → Item → Type 0) (r s : Recording S) (items : List (ℕ × Item)) (is : Records flat r items s) → IsTidy flat harts Good steady r → EachMade flat P r s items is
+        → Throughout flat (log_to s) P r.at (map (λ (x : ℕ × Item). x.0) items)
+    throughout P r s [] is tidy each = tt
+    throughout P r s (x ∷ items) is tidy each =
+        let rest = throughout P is.0 s items is.2 (tidy_item flat harts Good steady r is.0 x.0 x.1 tidy is.1) each.1 in (
+          subst (P r.at x.0) (sym (next_is r is.0 s x.0 x.1 items tidy is.1 is.2)) each.0,
+          subst (λ o. IsSomeAnd o (λ (m : Replay S × Option V). Throughout flat (log_to s) P m.0 (map (λ (y : ℕ × Item). y.0) items))) (sym (steps r is.0 s x.0 x.1 items tidy is.1 is.2)) rest,
+        )
 
     stops : (a : Replay S) (h : ℕ) (item : Item) (v : Verdict) → made flat a h item ≡ None → goes flat a h item v ≡ None
     stops a h item CanGo none = ap (option_map (λ x. (x, told_of flat a h item x))) none

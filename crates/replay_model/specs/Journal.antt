@@ -19,6 +19,11 @@ abbrev pub left_for : Mode → Option Mode
 left_for Read = Some Read
 left_for Write = None
 
+-- a Gain is the want of its hart
+abbrev pub IsWantedGain : {S V : Type 0} → Flat S V → Replay S → ℕ → Item → Type 0
+IsWantedGain flat s h (Makes (Gain count page seq mode waits)) = want flat s h ≡ Some (page, mode)
+IsWantedGain flat s h _ = Unit {0}
+
 module _ {S V : Type 0} (flat : Flat S V) (log : Log) where
   -- another hart below the limit wants the page in a mode that conflicts with what h holds, and this is left for that mode
   pub record IsWanted (s : Replay S) (h page : ℕ) (left : Option Mode) : Type 0 where
@@ -35,7 +40,10 @@ module _ {S V : Type 0} (flat : Flat S V) (log : Log) where
   IsLeanItem s h (Makes (Yield count page seq left)) = IsWanted s h page left
   IsLeanItem s h _ = Unit {0}
 
-  -- each hart in turn can go, and its item is lean at the state before it
+  -- each hart in turn can go, and of its item this holds at the state before it
+  abbrev pub Throughout : (Replay S → ℕ → Item → Type 0) → Replay S → List ℕ → Type 0
+  Throughout P s [] = Unit {0}
+  Throughout P s (h ∷ order) = P s h (next_item flat log s h) × IsSomeAnd (step flat log h s) (λ m. Throughout P m.0 order)
+
   abbrev pub IsLean : Replay S → List ℕ → Type 0
-  IsLean s [] = Unit {0}
-  IsLean s (h ∷ order) = IsLeanItem s h (next_item flat log s h) × IsSomeAnd (step flat log h s) (λ m. IsLean m.0 order)
+  IsLean s order = Throughout IsLeanItem s order

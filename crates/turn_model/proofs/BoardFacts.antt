@@ -61,7 +61,7 @@ use Rattle.turn_model.specs.Lists.{Recorded, comes_to}
 use Rattle.turn_model.specs.Machine.{board_machine}
 use Rattle.turn_model.specs.Faithful.{IsFaithful, AllBelow, AccessesSend, is_access, time_in}
 use Rattle.turn_model.specs.Laws.{IsBoard, IsRight, RecordingsAreRight, RoundsAreRight}
-use Rattle.turn_model.proofs.Reaching.{IsReached, reached_sound, log_size_is, reached_orderly, reached_full, reached_done, reached_agrees}
+use Rattle.turn_model.proofs.Reaching.{IsReached, reached_sound, log_size_is, reached_orderly, reached_full, reached_gains, reached_done, reached_agrees}
 use Rattle.turn_model.proofs.Listing.{recorded}
 use Rattle.turn_model.proofs.Rounding.{recorded_in_rounds}
 
@@ -442,6 +442,7 @@ module _ (terms : Terms) (image : Image) (harts : ℕ) (outside : Outside) (page
         ended = refl;
         obeyed = full;
         done = reached_done board_machine terms harts (IsBoard harts terms.pages) (board_faithful harts terms.pages) first outside (start_with terms image harts pages) (no_place harts) d reached agrees;
+        gains = reached_gains board_machine terms harts (IsBoard harts terms.pages) (board_faithful harts terms.pages) first outside (start_with terms image harts pages) (no_place harts) d reached;
         taken = record {
           asked = reached.answered.asked;
           times = reached.answered.times;

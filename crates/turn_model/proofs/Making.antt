@@ -1,5 +1,5 @@
 -- What each step of a turn makes.
-use Rattle.std.proofs.Common.{◌≡◌, ◌≢◌, ◌⊎◌, ℕ, zero, suc, ◌+◌, ◌*◌, ◌/◌, ◌%◌, ◌<◌, ◌≤◌, ◌==◌, ◌&&◌, Bool, true, false, not, cond, List, [], ◌∷◌, ◌++◌, length, map, flat_map, find, max, min, Option, Some, None, slice_get, slice_set, slice_index, nat_lt, nat_le, is_some, unwrap_or, refl, sym, ap, ap₂, ◌∙◌, subst, inl, inr, arith, if◌then◌else◌, true≢false}
+use Rattle.std.proofs.Common.{◌≡◌, ◌≢◌, ◌⊎◌, ℕ, zero, suc, ◌+◌, ◌*◌, ◌/◌, ◌%◌, ◌<◌, ◌≤◌, ◌==◌, ◌&&◌, Bool, true, false, not, cond, List, [], ◌∷◌, ◌++◌, length, map, flat_map, find, max, min, Option, Some, None, slice_get, slice_set, slice_index, nat_lt, nat_le, is_some, unwrap_or, refl, sym, ap, ap₂, ◌∙◌, subst, inl, inr, arith, if◌then◌else◌, append_assoc, true≢false}
 use Rattle.std.specs.Option.{option_map}
 use Rattle.std.proofs.lemmas.Option.{none-some, same_Some}
 use Rattle.std.proofs.lemmas.Bool.{eq-eqb, ne_eqb}
@@ -26,7 +26,7 @@ use Rattle.rv_words.specs.declared.shared.Mode.TheVariants.{Read, Write}
 use Rattle.log_entry.specs.declared.log.Log.{Log}
 use Rattle.orders_law.specs.Orders.{below}
 use Rattle.order_rules.specs.Rules.{has_poll, waits_due, waits_after}
-use Rattle.replay_model.specs.Journal.{left_for}
+use Rattle.replay_model.specs.Journal.{left_for, IsWantedGain}
 use Rattle.solo_recording.proofs.Prefix.{one_passes, last_passes}
 use Rattle.crew_recording.specs.Recording.{IsRecorded}
 use Rattle.crew_recording.specs.Allowed.{IsPolled, Allowed, log_so_far}
@@ -158,8 +158,8 @@ module _ {S V : Type 0} (machine : Machine S V) (terms : Terms) (many pages : �
 
   entry_made : (b d : Board S) (e : Entry) → Sound b → count_of e ≡ machine.flat.count b.at.flat h → is_end e ≡ false
       → ((t : Replay S) → made machine.flat b.at h (Makes e) ≡ Some t → verdict_on machine.flat b.at h (Makes e) ≡ CanGo)
-      → Allowed machine.flat pages terms.limit (recording_of b) h (Makes e) → entered machine terms h e b ≡ Some d → EntryMade b d e
-  entry_made b d e sound stands no_end can allowed is =
+      → Allowed machine.flat pages terms.limit (recording_of b) h (Makes e) → IsWantedGain machine.flat b.at h (Makes e) → entered machine terms h e b ≡ Some d → EntryMade b d e
+  entry_made b d e sound stands no_end can allowed wanted_so is =
       let grown = slice_set b.streams h (stream b h ++ e ∷ []) in
       let a = mapped (λ (s : Replay S). record b { at = s; streams = grown }) (made machine.flat b.at h (Makes e)) d is in
       let l : h < length b.streams = (let z = sound.ordered.tidy.streams in omega (arith, z, inside)) in
@@ -170,7 +170,7 @@ module _ {S V : Type 0} (machine : Machine S V) (terms : Terms) (many pages : �
       record {
         went = subst (Leads b) a.2 (record {
           items = Makes e ∷ [];
-          made = ((recording_of c, one, refl), (allowed, tt));
+          made = ((recording_of c, one, refl), (allowed, tt), (wanted_so, tt));
           journal = refl;
           orders = refl;
           size = ap (λ (xs : List Entry). length xs) grows ∙ length_push (stream b h) e;
@@ -255,7 +255,7 @@ module _ {S V : Type 0} (machine : Machine S V) (terms : Terms) (many pages : �
       let c = record b { outside = left } in
       let e = poll_at machine terms h b (max time (machine.flat.time b.at.flat)) in
       once Polled b (entered machine terms h e c) (λ d is.
-      let x = entry_made c d e (record { ordered = sound.ordered; fits = sound.fits; orders_size = sound.orders_size }) refl refl (λ t e. poll_can b.at t (max time (machine.flat.time b.at.flat)) e) (due_is b due) is in (
+      let x = entry_made c d e (record { ordered = sound.ordered; fits = sound.fits; orders_size = sound.orders_size }) refl refl (λ t e. poll_can b.at t (max time (machine.flat.time b.at.flat)) e) (due_is b due) tt is in (
         both machine.flat many pages terms.limit Good faithful h b c d (aside machine.flat many pages terms.limit Good faithful h b c refl refl refl) x.went,
         λ less here. subst (λ n. has_poll (stream d h) n ≡ true) (sym x.own) (subst (λ s. has_poll s (machine.flat.count b.at.flat h) ≡ true) (sym x.stream) (last_poll (stream b h) (machine.flat.count b.at.flat h) e refl refl)),
       ))
@@ -289,7 +289,7 @@ module _ {S V : Type 0} (machine : Machine S V) (terms : Terms) (many pages : �
       let e = yield_of machine terms h n b in
       roomy Polled b e (λ c. on (entered machine terms h (yield_of machine terms h n c) c))
       (once Polled b (entered machine terms h e b) (λ d is.
-      let x = entry_made b d e sound refl refl (λ t z. can_go b.at e (number_is b n.0 sound l) refl) (polled, l, left_less (held b.at.holders n.0 h) n.1 hit) is in
+      let x = entry_made b d e sound refl refl (λ t z. can_go b.at e (number_is b n.0 sound l) refl) (polled, l, left_less (held b.at.holders n.0 h) n.1 hit) tt is in
       (x.went, λ less. polled_on b d e x.stream x.own (polled (let z = x.own in omega (arith, z, less)))))))
       (λ _. (same b, polled))
     where
@@ -351,8 +351,8 @@ module _ {S V : Type 0} (machine : Machine S V) (terms : Terms) (many pages : �
         let f = none_in_below (λ i. not (i == h) && conflict (held b.at.holders n.0 i) (Some n.1)) (length b.streams) clash_none g l in
         absurd (true≢false (sym (ap₂ (λ x y. not x && y) (ne_eqb g h other) e) ∙ f))
 
-  pub gains_page_to : (n : ℕ × Mode) (b : Board S) → Sound b → Below b → n.0 < pages → To (λ c. Kept b c × (lacks c.at.holders h n ≡ false) × Below c) b (gains_page machine terms h n b)
-  gains_page_to n b sound low l =
+  pub gains_page_to : (n : ℕ × Mode) (b : Board S) → Sound b → Below b → n.0 < pages → (lacks b.at.holders h n ≡ true → want machine.flat b.at h ≡ Some n) → To (λ c. Kept b c × (lacks c.at.holders h n ≡ false) × Below c) b (gains_page machine terms h n b)
+  gains_page_to n b sound low l wants =
       choice (λ c. Kept b c × (lacks c.at.holders h n ≡ false) × Below c) b (holds_so b h n) (On b) (gains_unless machine terms (kept_by b h n) h n b)
       (λ so. (same b, (kept b, so_not_lacking (strength (held b.at.holders n.0 h)) (strength (Some n.1)) so, low)))
       (λ not_so. tries (kept_by b h n) refl (more_than (strength (held b.at.holders n.0 h)) (strength (Some n.1)) not_so))
@@ -366,7 +366,7 @@ module _ {S V : Type 0} (machine : Machine S V) (terms : Terms) (many pages : �
       gain_to : kept_by b h n ≡ None → strength (held b.at.holders n.0 h) < strength (Some n.1) → (d : Board S) → entered machine terms h (gain_of machine terms h n b) b ≡ Some d → Leads b d × (Kept b d × (lacks d.at.holders h n ≡ false) × Below d)
       gain_to none more d is =
           let e = gain_of machine terms h n b in
-          let m = entry_made b d e sound refl refl (λ t z. can_go b.at e (number_is b n.0 sound l) refl) (low.0, low.1, l, more, no_clash b n sound none, waits_of_streams (log_of machine terms b) (log_so_far machine.flat pages terms.limit (recording_of b)) n.0 h (next_number b n.0) refl) is in
+          let m = entry_made b d e sound refl refl (λ t z. can_go b.at e (number_is b n.0 sound l) refl) (low.0, low.1, l, more, no_clash b n sound none, waits_of_streams (log_of machine terms b) (log_so_far machine.flat pages terms.limit (recording_of b)) n.0 h (next_number b n.0) refl) (wants (less_true (strength (held b.at.holders n.0 h)) (strength (Some n.1)) more)) is in
           let t = same_Some _ _ m.made in
           let flat : d.at.flat ≡ b.at.flat = ap (λ (x : Replay S). x.flat) m.at ∙ sym (ap (λ (x : Replay S). x.flat) t) in
           let holders : d.at.holders ≡ with_held b.at.holders n.0 h (Some n.1) = ap (λ (x : Replay S). x.holders) m.at ∙ sym (ap (λ (x : Replay S). x.holders) t) in (
@@ -384,20 +384,47 @@ module _ {S V : Type 0} (machine : Machine S V) (terms : Terms) (many pages : �
           (once (λ c. Kept b c × (lacks c.at.holders h n ≡ false) × Below c) b (entered machine terms h (gain_of machine terms h n b) b) (gain_to none more))
       tries (Some g) none more = (aside machine.flat many pages terms.limit Good faithful h b (with_want h (Some n) b) refl refl refl, tt)
 
-  all_gains : (ns : List (ℕ × Mode)) (b : Board S) → Sound b → Below b → AllBelow pages ns → To (λ c. Kept b c × (find (lacks c.at.holders h) ns ≡ None) × Below c) b (goes (map (gains_page machine terms h) ns) (On b))
-  all_gains [] b sound low below = (same b, (kept b, refl, low))
-  all_gains (n ∷ ns) b sound low below =
+  -- what the next move needs: first what isn't lacking, and then the rest
+  pub record Ahead (b : Board S) (done ns : List (ℕ × Mode)) : Type 0 where
+    pub need : machine.flat.need b.at.flat h ≡ done ++ ns
+    pub none : find (lacks b.at.holders h) done ≡ None
+
+  pub ahead_first : (b : Board S) → Ahead b [] (machine.flat.need b.at.flat h)
+  ahead_first b = record { need = refl; none = refl }
+
+  -- the first of the rest is wanted, if it is lacking
+  pub ahead_wants : (b : Board S) (done : List (ℕ × Mode)) (n : ℕ × Mode) (ns : List (ℕ × Mode)) → Ahead b done (n ∷ ns) → lacks b.at.holders h n ≡ true → want machine.flat b.at h ≡ Some n
+  ahead_wants b done n ns ahead lack =
+      let test = lacks b.at.holders h in
+      ap (find test) ahead.need ∙ find-append test done (n ∷ ns) ∙ ap (λ o. option_or o (find test (n ∷ ns))) ahead.none ∙ ap (λ x. cond x (Some n) (find test ns)) lack
+
+  still_none : (b c : Board S) (xs : List (ℕ × Mode)) → Kept b c → find (lacks b.at.holders h) xs ≡ None → find (lacks c.at.holders h) xs ≡ None
+  still_none b c [] kept none = refl
+  still_none b c (x ∷ xs) kept none = by (lacks b.at.holders h x) refl none (still_none b c xs kept) where
+    by : (l : Bool) → lacks b.at.holders h x ≡ l → cond l (Some x) (find (lacks b.at.holders h) xs) ≡ None → (find (lacks b.at.holders h) xs ≡ None → find (lacks c.at.holders h) xs ≡ None) → find (lacks c.at.holders h) (x ∷ xs) ≡ None
+    by true is e rest = absurd (none-some _ (sym e))
+    by false is e rest = ap (λ l. cond l (Some x) (find (lacks c.at.holders h) xs)) (kept.more x is) ∙ rest e
+
+  pub ahead_on : (b c : Board S) (done : List (ℕ × Mode)) (n : ℕ × Mode) (ns : List (ℕ × Mode)) → Ahead b done (n ∷ ns) → Kept b c → lacks c.at.holders h n ≡ false → Ahead c (done ++ n ∷ []) ns
+  ahead_on b c done n ns ahead kept lack = record {
+    need = ap (λ f. machine.flat.need f h) kept.flat ∙ ahead.need ∙ sym (append_assoc done (n ∷ []) ns);
+    none = find-append (lacks c.at.holders h) done (n ∷ []) ∙ ap₂ option_or (still_none b c done kept ahead.none) (ap (λ l. cond l (Some n) None) lack);
+  }
+
+  all_gains : (done ns : List (ℕ × Mode)) (b : Board S) → Sound b → Below b → AllBelow pages ns → Ahead b done ns → To (λ c. Kept b c × (find (lacks c.at.holders h) ns ≡ None) × Below c) b (goes (map (gains_page machine terms h) ns) (On b))
+  all_gains done [] b sound low below ahead = (same b, (kept b, refl, low))
+  all_gains done (n ∷ ns) b sound low below ahead =
       further machine.flat many pages terms.limit Good faithful h (λ c. Kept b c × (lacks c.at.holders h n ≡ false) × Below c) (λ d. Kept b d × (find (lacks d.at.holders h) (n ∷ ns) ≡ None) × Below d) b (map (gains_page machine terms h) ns) (gains_page machine terms h n b) sound
-      (gains_page_to n b sound low below.0)
+      (gains_page_to n b sound low below.0 (ahead_wants b done n ns ahead))
       (λ c s p. weaker (λ d. Kept c d × (find (lacks d.at.holders h) ns ≡ None) × Below d) (λ d. Kept b d × (find (lacks d.at.holders h) (n ∷ ns) ≡ None) × Below d) c (goes (map (gains_page machine terms h) ns) (On c))
       (λ d q. (record { flat = q.0.flat ∙ p.0.flat; more = λ k e. q.0.more k (p.0.more k e) }, ap (λ x. cond x (Some n) (find (lacks d.at.holders h) ns)) (q.0.more n p.1) ∙ q.1, q.2))
-      (all_gains ns c s p.2 below.1))
+      (all_gains (done ++ n ∷ []) ns c s p.2 below.1 (ahead_on b c done n ns ahead p.0 p.1)))
 
   pub gains_to : (b : Board S) → Sound b → Below b → To (λ c. (want machine.flat c.at h ≡ None) × Below c) b (gains machine terms h b)
   gains_to b sound low =
       weaker (λ c. Kept b c × (find (lacks c.at.holders h) (machine.flat.need b.at.flat h) ≡ None) × Below c) (λ c. (want machine.flat c.at h ≡ None) × Below c) b (gains machine terms h b)
       (λ c p. (ap (λ f. find (lacks c.at.holders h) (machine.flat.need f h)) p.0.flat ∙ p.1, p.2))
-      (all_gains (machine.flat.need b.at.flat h) b sound low (faithful.inside b.at.flat h sound.ordered.tidy.good))
+      (all_gains [] (machine.flat.need b.at.flat h) b sound low (faithful.inside b.at.flat h sound.ordered.tidy.good) (ahead_first b))
 
   behind_to : (b : Board S) → To Any b (behind_touch machine terms h b)
   behind_to b =
@@ -429,7 +456,7 @@ module _ {S V : Type 0} (machine : Machine S V) (terms : Terms) (many pages : �
       let input = recorded_input word store (machine.flat.time b.at.flat) now answer in
       touched_to b (entered machine terms h (touch_of machine terms h b input) c) (λ d is.
       both machine.flat many pages terms.limit Good faithful h b c d (aside machine.flat many pages terms.limit Good faithful h b c refl refl refl)
-      (entry_made c d (touch_of machine terms h b input) (record { ordered = sound.ordered; fits = sound.fits; orders_size = sound.orders_size }) refl refl (λ t e. touch_can b.at t input none e) low is).went)
+      (entry_made c d (touch_of machine terms h b input) (record { ordered = sound.ordered; fits = sound.fits; orders_size = sound.orders_size }) refl refl (λ t e. touch_can b.at t input none e) low tt is).went)
 
   touches_with_to : (word : DeviceWord) (store : Option ℕ) (b : Board S) (o : Option (Asked × Outside)) → Sound b → Below b → want machine.flat b.at h ≡ None → To Any b (touches_with machine terms h word store b o)
   touches_with_to word store b None sound low none = (aside machine.flat many pages terms.limit Good faithful h b (closes _ b) refl refl refl, tt)

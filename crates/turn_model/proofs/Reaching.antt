@@ -1,5 +1,5 @@
 -- The boards that turns lead to, from the one before any turn.
-use Rattle.std.proofs.Common.{◌≡◌, ◌⊎◌, ℕ, zero, suc, ◌+◌, ◌-◌, ◌<◌, ◌≤◌, Bool, true, false, List, [], ◌∷◌, length, replicate, Option, Some, None, slice_get, unwrap_or, inl, inr, refl, sym, ap, ◌∙◌, subst, arith, if◌then◌else◌}
+use Rattle.std.proofs.Common.{◌≡◌, ◌⊎◌, ℕ, zero, suc, ◌+◌, ◌-◌, ◌<◌, ◌≤◌, Bool, true, false, List, [], ◌∷◌, length, map, replicate, Option, Some, None, slice_get, unwrap_or, inl, inr, refl, sym, ap, ◌∙◌, subst, arith, if◌then◌else◌}
 use Rattle.std.specs.List.{enumerate_from, filter_map}
 use Rattle.std.specs.Option.{option_map_or}
 use Rattle.std.proofs.lemmas.Option.{none-some}
@@ -12,13 +12,13 @@ use Rattle.order_rules.specs.Orderly.{IsOrderly}
 use Rattle.replay_model.specs.Holders.{nobody}
 use Rattle.replay_model.specs.State.{Replay, start}
 use Rattle.replay_model.specs.Items.{Item, Move, goes, verdict_on, IsFullOrder, step}
-use Rattle.replay_model.specs.Journal.{order_of}
+use Rattle.replay_model.specs.Journal.{order_of, IsWantedGain, Throughout}
 use Rattle.replay_model.specs.Inputs.{Agree, console_input}
 use Rattle.replay_model.specs.Outcome.{Done, cause_agrees, outcome_at, least_diverged, diverged, Diverged}
 use Rattle.crew_recording.specs.Recording.{Recording, Records, first_recording}
 use Rattle.crew_recording.specs.Allowed.{IsPolled}
 use Rattle.crew_recording.proofs.Going.{IsTidy, by_item, tidy_item}
-use Rattle.crew_recording.proofs.Obeying.{map_size, full, ends}
+use Rattle.crew_recording.proofs.Obeying.{map_size, throughout, full, ends}
 use Rattle.crew_recording.proofs.Steady.{replicate_size}
 use Rattle.crew_recording.proofs.Fitting.{FitsAt}
 use Rattle.crew_recording.proofs.Ordered.{IsOrdered}
@@ -230,6 +230,15 @@ module _ {S V : Type 0} (machine : Machine S V) (terms : Terms) (many : ℕ) (Go
         let f = full machine.flat many Good faithful.steady terms.pages terms.limit terms.image log.cause (recording_of begin) (recording_of d) goes.items goes.made.0 begin_sound.ordered.tidy in
         let alike : length (no_streams many) ≡ length (ended_streams machine terms d) = replicate_size many [] ∙ sym (log_size_is d ∙ (reached_sound d reached).ordered.tidy.streams) in
         (f.0, f.1 ∙ sym goes.order, subst (λ n. IsFull (step machine.flat log) (from n).at f.0 d.at) alike f.2)
+
+    -- each Gain is the want of its hart
+    pub reached_gains : (d : Board S) → IsReached d → Throughout machine.flat (log_of machine terms d) (IsWantedGain machine.flat) (start (log_of machine terms d) first) (order_of d.journal)
+    reached_gains d reached =
+        let goes = reached.goes in
+        let log = log_of machine terms d in
+        let t = throughout machine.flat many Good faithful.steady terms.pages terms.limit terms.image log.cause (IsWantedGain machine.flat) (recording_of begin) (recording_of d) goes.items goes.made.0 begin_sound.ordered.tidy goes.made.2 in
+        let alike : length (no_streams many) ≡ length (ended_streams machine terms d) = replicate_size many [] ∙ sym (log_size_is d ∙ (reached_sound d reached).ordered.tidy.streams) in
+        subst (Throughout machine.flat log (IsWantedGain machine.flat) (start log first)) (sym goes.order) (subst (λ n. Throughout machine.flat log (IsWantedGain machine.flat) (from n).at (map (λ (x : ℕ × Item). x.0) goes.items)) alike t)
 
     pub reached_done : (d : Board S) → IsReached d → cause_agrees machine.flat (log_of machine terms d) d.at.flat ≡ true → outcome_at machine.flat (log_of machine terms d) d.at ≡ Some (Done d.at.flat)
     reached_done d reached agrees =

@@ -67,7 +67,7 @@ module _ {S V : Type 0} (machine : Machine S V) (terms : Terms) (many pages : �
     pub orders_size : length c.orders ≡ length b.orders
 
   pub stays : (b c : Board S) → recording_of b ≡ recording_of c → c.journal ≡ b.journal → c.orders ≡ b.orders → Goes b c
-  stays b c same journal orders = record { items = []; made = (same, tt); order = ap order_of journal ∙ sym (append-nil (order_of b.journal)); orders_size = ap (λ (xs : List (Option Order)). length xs) orders }
+  stays b c same journal orders = record { items = []; made = (same, tt, tt); order = ap order_of journal ∙ sym (append-nil (order_of b.journal)); orders_size = ap (λ (xs : List (Option Order)). length xs) orders }
 
   pub then_goes : (b c d : Board S) → Goes b c → Goes c d → Goes b d
   then_goes b c d x y = record {
@@ -90,7 +90,7 @@ module _ {S V : Type 0} (machine : Machine S V) (terms : Terms) (many pages : �
 
   runs_made : (h n : ℕ) (r : Recording S) (s : Replay S) → IsOrdered machine.flat many Good faithful.steady faithful.timed pages terms.limit r → h < length r.streams → CanMove h n r → runs machine terms h n r.at ≡ Some s
       → MadeBy r (by_one h (replicate n Move)) (record { at = s; streams = r.streams })
-  runs_made h zero r s ordered l can e = (ap (λ (x : Replay S). record r { at = x }) (same_Some _ _ e), tt)
+  runs_made h zero r s ordered l can e = (ap (λ (x : Replay S). record r { at = x }) (same_Some _ _ e), tt, tt)
   runs_made h (suc n) r s ordered l can e =
       let m = bound_to (λ (m : Replay S × Option V). runs machine terms h n m.0) (goes machine.flat r.at h Move (verdict_on machine.flat r.at h Move)) s e in
       let c = can_and_does machine terms many pages Good faithful r.at h Move (verdict_on machine.flat r.at h Move) m.0 m.1 in
@@ -101,7 +101,7 @@ module _ {S V : Type 0} (machine : Machine S V) (terms : Terms) (many pages : �
       let up = moves machine.flat many Good faithful.steady r.at m.0.0 h ordered.tidy.good c.1 in
       let rest = runs_made h n next s (ordered_item machine.flat many Good faithful.steady faithful.timed pages terms.limit r next h Move ordered one allowed) l
       (λ i less. let k : machine.flat.count r.at.flat h + (i + 1) ≡ machine.flat.count m.0.0.flat h + i = omega (arith, up) in subst (λ z. (z < terms.limit) × IsPolled (stream_in r.streams h) z) k (can (i + 1) (omega (arith, less)))) m.2 in
-      ((next, one, rest.0), (allowed, rest.1))
+      ((next, one, rest.0), (allowed, rest.1), (tt, rest.2))
 
   order_kept : (g : ℕ) (b e : Board S) (order : Order) → SameOf machine.flat many Good faithful.steady faithful.timed pages terms.limit g (recording_of b) (recording_of e) → Promised g b order → Promised g e order
   order_kept g b e (Go until) same f = λ n from to. subst (λ s. (n < terms.limit) × IsPolled s n) (sym same.stream) (f n (let z = same.count in omega (arith, z, from)) to)

@@ -1,5 +1,5 @@
 -- What each step of a turn keeps, the whole turn keeps.
-use Rattle.std.proofs.Common.{◌≡◌, ◌≢◌, ℕ, ◌<◌, ◌==◌, ◌||◌, Bool, true, false, List, [], ◌∷◌, map, max, Option, Some, None, is_some, refl, sym, ◌∙◌, if◌then◌else◌, true≢false}
+use Rattle.std.proofs.Common.{◌≡◌, ◌≢◌, ℕ, ◌<◌, ◌==◌, ◌||◌, Bool, true, false, List, [], ◌∷◌, ◌++◌, map, max, Option, Some, None, is_some, refl, sym, ◌∙◌, if◌then◌else◌, true≢false}
 use Rattle.std.proofs.lemmas.Bool.{eq-eqb}
 use Rattle.rv_words.specs.declared.shared.Mode.{Mode}
 use Rattle.rv_words.specs.declared.shared.Input.TheVariants.{Nothing}
@@ -16,7 +16,7 @@ use Rattle.turn_model.specs.Entering.{Way, On, Ends, Nowhere, goes, on, has_room
 use Rattle.turn_model.specs.Steps.{with_want, passes_favour, console_gives, clock_gives, clock_answers, steps, rests_where_closed, rests_at_limit, is_due, poll_at, polls_with, polls, yield_of, yields_now, yields_for, yields_to, yields, gain_of, gains_unless, gains_page, gains, touch_of, behind_touch, touched, touches_at, touches_with, accesses, touches, goes_on}
 use Rattle.turn_model.specs.Faithful.{IsFaithful, AllBelow}
 use Rattle.turn_model.proofs.Ways.{sound_after}
-use Rattle.turn_model.proofs.Making.{Sound, To, Any, Polled, Below, Kept, lacks, due_is, rests_where_closed_to, rests_at_limit_to, below_limit, polls_to, yields_to_to, yields_come, gains_page_to, gains_to, touches_to}
+use Rattle.turn_model.proofs.Making.{Sound, To, Any, Polled, Below, Kept, Ahead, ahead_first, ahead_wants, ahead_on, lacks, due_is, rests_where_closed_to, rests_at_limit_to, below_limit, polls_to, yields_to_to, yields_come, gains_page_to, gains_to, touches_to}
 
 -- while a turn goes on this holds, and where it ended that
 abbrev pub Walks : {S : Type 0} → (Board S → Type 0) → (Order → Board S → Type 0) → Way S → Type 0
@@ -147,11 +147,11 @@ module _ {S V : Type 0} (machine : Machine S V) (terms : Terms) (many pages : �
     gains_page_walks n b sound low during =
         choice (holds_so b h n) (On b) (gains_unless machine terms (kept_by b h n) h n b) (λ _. during) (λ _. gains_unless_walks (kept_by b h n) n b sound low during)
 
-    all_gains : (ns : List (ℕ × Mode)) (b : Board S) → SoundB b → BelowB b → AllBelow pages ns → During b → W (goes (map (gains_page machine terms h) ns) (On b))
-    all_gains [] b sound low below during = during
-    all_gains (n ∷ ns) b sound low below during =
+    all_gains : (done ns : List (ℕ × Mode)) (b : Board S) → SoundB b → BelowB b → AllBelow pages ns → Ahead machine terms many pages Good faithful h inside b done ns → During b → W (goes (map (gains_page machine terms h) ns) (On b))
+    all_gains done [] b sound low below ahead during = during
+    all_gains done (n ∷ ns) b sound low below ahead during =
         further (λ c. Kept machine terms many pages Good faithful h inside b c × (lacks c.at.holders h n ≡ false) × BelowB c) During During After b (map (gains_page machine terms h) ns) (gains_page machine terms h n b) sound
-        (gains_page_to machine terms many pages Good faithful h inside n b sound low below.0) (gains_page_walks n b sound low.0 during) (λ c s p d. all_gains ns c s p.2 below.1 d)
+        (gains_page_to machine terms many pages Good faithful h inside n b sound low below.0 (ahead_wants machine terms many pages Good faithful h inside b done n ns ahead)) (gains_page_walks n b sound low.0 during) (λ c s p d. all_gains (done ++ n ∷ []) ns c s p.2 below.1 (ahead_on machine terms many pages Good faithful h inside b c done n ns ahead p.0 p.1) d)
 
     behind_walks : (d : Board S) → (machine.flat.is_stopped d.at.flat ≡ true → After Rest (closes causes.Stop d)) × (machine.flat.is_stopped d.at.flat ≡ false → During d) → W (behind_touch machine terms h d)
     behind_walks d both = choice (machine.flat.is_stopped d.at.flat) (Ends Rest (closes causes.Stop d)) _ both.0 (λ f. favoured (h == d.favoured) (both.1 f)) where
@@ -190,7 +190,7 @@ module _ {S V : Type 0} (machine : Machine S V) (terms : Terms) (many pages : �
         further BelowB During During After b₃ (gains machine terms h ∷ touches machine terms h ∷ rests_at_limit machine terms h ∷ goes_on machine terms h ∷ []) (rests_at_limit machine terms h b₃) s₃
         (rests_at_limit_to machine terms many pages Good faithful h inside BelowB b₃ (below_limit machine terms many pages Good faithful h inside b₃ s₃ p₃)) (limit_walks b₃ d₃) (λ b₄ s₄ p₄ d₄.
         further (λ c. (want machine.flat c.at h ≡ None) × BelowB c) During During After b₄ (touches machine terms h ∷ rests_at_limit machine terms h ∷ goes_on machine terms h ∷ []) (gains machine terms h b₄) s₄
-        (gains_to machine terms many pages Good faithful h inside b₄ s₄ p₄) (all_gains (machine.flat.need b₄.at.flat h) b₄ s₄ p₄ (faithful.inside b₄.at.flat h s₄.ordered.tidy.good) d₄) (λ b₅ s₅ p₅ d₅.
+        (gains_to machine terms many pages Good faithful h inside b₄ s₄ p₄) (all_gains [] (machine.flat.need b₄.at.flat h) b₄ s₄ p₄ (faithful.inside b₄.at.flat h s₄.ordered.tidy.good) (ahead_first machine terms many pages Good faithful h inside b₄) d₄) (λ b₅ s₅ p₅ d₅.
         further AnyB During During After b₅ (rests_at_limit machine terms h ∷ goes_on machine terms h ∷ []) (touches machine terms h b₅) s₅
         (touches_to machine terms many pages Good faithful h inside b₅ s₅ p₅) (accesses_walk b₅ (machine.access b₅.at.flat h) s₅ p₅.1.0 d₅ refl) (λ b₆ s₆ _ d₆.
         further AnyB During During After b₆ (goes_on machine terms h ∷ []) (rests_at_limit machine terms h b₆) s₆

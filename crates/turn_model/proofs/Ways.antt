@@ -51,7 +51,7 @@ module _ {S V : Type 0} (flat : Flat S V) (harts pages limit : ℕ) (Good : S �
   pub aside : (h : ℕ) (b c : Board S) → recording_of b ≡ recording_of c → c.journal ≡ b.journal → c.orders ≡ b.orders → Went h b c
   aside h b c same journal orders = record {
     items = [];
-    made = (same, tt);
+    made = (same, tt, tt);
     journal = journal;
     orders = orders;
     size = (let e = ap (λ (r : Recording S). length (stream_in r.streams h)) same in omega (arith, e));

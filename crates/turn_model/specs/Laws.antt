@@ -12,7 +12,7 @@ use Rattle.replay_model.specs.Board.{board}
 use Rattle.replay_model.specs.State.{Replay, start}
 use Rattle.replay_model.specs.Items.{IsFullOrder}
 use Rattle.replay_model.specs.Acts.{acts_of}
-use Rattle.replay_model.specs.Journal.{order_of}
+use Rattle.replay_model.specs.Journal.{order_of, IsWantedGain, Throughout}
 use Rattle.replay_model.specs.Inputs.{Agree}
 use Rattle.replay_model.specs.Outcome.{Done, outcome_at}
 use Rattle.turn_model.specs.Machine.{board_machine}
@@ -41,8 +41,9 @@ pub record HasTaken (outside : Outside) (r : Recorded FlatState) : Type 0 where
   pub agree : Agree board r.log r.ended asked times (board.sent r.ended)
 
 -- of a recording from a flat state: its log says the terms, has a stream for each hart, keeps to the log limit where a log of Ends
--- alone does, and is orderly; its journal obeys it, leads to the end that is recorded, and is full; every hart has ended there, and
--- the cause agrees with it; the journal's acts drive the flat machine to it; and the log agrees with console and clock
+-- alone does, and is orderly; its journal obeys it, leads to the end that is recorded, and is full, and each Gain along it is the
+-- want of its hart; at the end every hart has ended, and the cause agrees with the state; the journal's acts drive the flat machine
+-- there; and the log agrees with console and clock
 pub record IsRight (terms : Terms) (outside : Outside) (first : FlatState) (r : Recorded FlatState) : Type 0 where
   pub terms_are : r.log ≡ log_with terms r.log.streams r.log.cause
   pub harts_are : length r.log.streams ≡ board.harts first
@@ -51,6 +52,7 @@ pub record IsRight (terms : Terms) (outside : Outside) (first : FlatState) (r : 
   pub end : Replay FlatState
   pub ended : end.flat ≡ r.ended
   pub obeyed : IsFullOrder board r.log (start r.log first) (order_of r.journal) end
+  pub gains : Throughout board r.log (IsWantedGain board) (start r.log first) (order_of r.journal)
   pub done : outcome_at board r.log end ≡ Some (Done r.ended)
   pub acts : run_from first (acts_of board r.log (start r.log first) (order_of r.journal)) ≡ Some r.ended
   pub taken : HasTaken outside r
