@@ -26,6 +26,7 @@ are_replayed = record {
   other_input = ((0, None) ∷ (0, None) ∷ (0, Some 0) ∷ (0, Some 1) ∷ [], (_, (refl, (_, refl, (refl, (_, refl, (refl, (_, refl, (refl, (_, refl, (refl, refl))))))))), refl));
   other_lines = ([], (_, (refl, refl), refl));
   other_cause = ((0, None) ∷ (0, None) ∷ (0, Some 0) ∷ (0, Some 1) ∷ (0, Some 2) ∷ [], (_, (refl, (_, refl, (refl, (_, refl, (refl, (_, refl, (refl, (_, refl, (refl, (_, refl, (refl, refl))))))))))), refl));
+  full_cause = ((0, None) ∷ (0, None) ∷ (0, Some 0) ∷ (0, Some 1) ∷ (0, Some 2) ∷ [], (_, (refl, (_, refl, (refl, (_, refl, (refl, (_, refl, (refl, (_, refl, (refl, (_, refl, (refl, refl))))))))))), refl));
   later_time = ((0, None) ∷ (0, None) ∷ (0, Some 0) ∷ (0, Some 1) ∷ (0, Some 2) ∷ [], (_, (refl, (_, refl, (refl, (_, refl, (refl, (_, refl, (refl, (_, refl, (refl, (_, refl, (refl, refl))))))))))), refl));
   more_held = ((0, None) ∷ (0, None) ∷ (0, Some 0) ∷ (0, Some 1) ∷ (0, Some 2) ∷ [], (_, (refl, (_, refl, (refl, (_, refl, (refl, (_, refl, (refl, (_, refl, (refl, (_, refl, (refl, refl))))))))))), refl));
   later_end = ((0, None) ∷ (0, None) ∷ (0, Some 0) ∷ (0, Some 1) ∷ (0, Some 2) ∷ (0, Some 3) ∷ [], (_, (refl, (_, refl, (refl, (_, refl, (refl, (_, refl, (refl, (_, refl, (refl, (_, refl, (refl, (_, refl, (refl, refl))))))))))))), refl));

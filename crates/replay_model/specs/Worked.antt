@@ -5,7 +5,7 @@ use Rattle.rv_words.specs.declared.shared.Mode.TheVariants.{Read, Write}
 use Rattle.rv_words.specs.declared.shared.Input.{Input}
 use Rattle.rv_words.specs.declared.shared.Input.TheVariants.{Nothing, Empty, Byte}
 use Rattle.rv_words.specs.declared.shared.Cause.{Cause}
-use Rattle.rv_words.specs.declared.shared.Cause.TheVariants.{Stop, Limit}
+use Rattle.rv_words.specs.declared.shared.Cause.TheVariants.{Stop, Limit, Full}
 use Rattle.log_entry.specs.declared.log.Entry.TheVariants as e
 use Rattle.log_entry.specs.declared.log.Log.{Log}
 use Rattle.order_rules.specs.Worked.{log_of, gain, race_log}
@@ -108,6 +108,7 @@ pub record AreReplayed : Type 0 where
   pub other_input : IsOutcome stopping (stop_log Stop 5 0 0 Read 2 Empty 3) (first 1) (Diverged 0 2 4 (ended (2 ∷ []) false 5))
   pub other_lines : IsOutcome stopping (stop_log Stop 5 1 0 Read 2 Nothing 3) (first 1) (Diverged 0 0 5 (ended (0 ∷ []) false 0))
   pub other_cause : IsOutcome stopping (stop_log Limit 5 0 0 Read 2 Nothing 3) (first 1) (Diverged 0 3 7 (ended (3 ∷ []) true 5))
+  pub full_cause : IsOutcome stopping (stop_log Full 5 0 0 Read 2 Nothing 3) (first 1) (Diverged 0 3 7 (ended (3 ∷ []) true 5))
   pub later_time : IsOutcome stopping (stop_log Stop 6 0 0 Read 2 Nothing 3) (first 1) (Done (ended (3 ∷ []) true 6))
   pub more_held : IsOutcome stopping (stop_log Stop 5 0 0 Write 2 Nothing 3) (first 1) (Done (ended (3 ∷ []) true 5))
   pub later_end : IsOutcome stopping (stop_log Stop 5 0 0 Read 2 Nothing 4) (first 1) (Done (ended (4 ∷ []) true 5))
