@@ -1,6 +1,6 @@
 -- The least order, where further harts can't step at good states.
-use Rattle.std.proofs.Common.{◌≡◌, ℕ, ◌≤◌, Bool, true, false, cond, List, [], ◌∷◌, find, nat_lt, Option, Some, None, is_some, refl, sym, ap, ◌∙◌, subst, arith}
-use Rattle.std.proofs.lemmas.Bool.{ltb-true, ltb-false}
+use Rattle.std.proofs.Common.{◌≡◌, ℕ, ◌≤◌, Bool, true, false, cond, List, [], ◌∷◌, find, nat_lt, Option, Some, None, is_some, refl, sym, ap, ◌∙◌, subst}
+use Rattle.std.proofs.lemmas.Bool.{ltb-false, le-ltb}
 use Rattle.std.proofs.lemmas.Option.{none-some}
 use Rattle.orders_law.specs.Orders.{below, Leads, IsFull, IsLeast, Lasts, Commutes}
 use Rattle.orders_law.proofs.Existence.{least_is_there}
@@ -16,12 +16,6 @@ within_bounds false o x e = absurd (none-some _ e)
 same_or_none : {X : Type 0} (b : Bool) (o : Option X) → (b ≡ false → o ≡ None) → cond b o None ≡ o
 same_or_none true o none = refl
 same_or_none false o none = sym (none refl)
-
-is_beyond : (a b : ℕ) → b ≤ a → nat_lt a b ≡ false
-is_beyond a b l = by (nat_lt a b) refl where
-  by : (c : Bool) → nat_lt a b ≡ c → nat_lt a b ≡ false
-  by true e = let less = ltb-true a b e in absurd (omega (arith, l, less))
-  by false e = e
 
 module _ {S E : Type 0} (step : ℕ → S → Option (S × E)) (good : S → Type 0) (harts : ℕ) (lasts : Lasts step good) (commutes : Commutes step good)
     (no_more : (h : ℕ) (s : S) → good s → harts ≤ h → step h s ≡ None) where
@@ -60,6 +54,6 @@ module _ {S E : Type 0} (step : ℕ → S → Option (S × E)) (good : S → Typ
   least_there s t xs ok full =
       let leads = leads_bounded s t xs ok full.leads in
       let l = least_is_there bounded good bounded_lasts bounded_commutes harts s t xs ok
-      (λ h a m. none_beyond (nat_lt h harts) (step h a) (is_beyond h harts m))
+      (λ h a m. none_beyond (nat_lt h harts) (step h a) (le-ltb h harts m))
       (record { leads = leads.0; over = λ h. same h t leads.1 ∙ full.over h }) in
       (l.0, least_back s t l.0 ok l.1)

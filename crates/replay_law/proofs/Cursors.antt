@@ -15,7 +15,7 @@ abbrev pub guard_of : Cursor → Item → Bool
 guard_of c (Makes e) = guard_is_met c e
 guard_of c item = true
 
-index_there : (xs : List ℕ) (i j n : ℕ) → j ≢ i → slice_index (slice_set xs i n) j ≡ slice_index xs j
+pub index_there : (xs : List ℕ) (i j n : ℕ) → j ≢ i → slice_index (slice_set xs i n) j ≡ slice_index xs j
 index_there [] i j n d = refl
 index_there (y ∷ xs) zero zero n d = absurd (d refl)
 index_there (y ∷ xs) zero (suc j) n d = refl

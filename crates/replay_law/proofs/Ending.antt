@@ -20,13 +20,13 @@ use Rattle.replay_model.specs.Board.{board}
 use Rattle.replay_model.specs.State.{Replay}
 use Rattle.replay_model.specs.Items.{Item, Ended, Move, Makes, item_at, next_item, step}
 use Rattle.hart_run.specs.Run.{Run}
-use Rattle.hart_run.proofs.Lists.{set_here, set_there, within, index_is}
+use Rattle.hart_run.proofs.Lists.{set_here, within, index_is}
 use Rattle.replay_law.specs.Laws.{IsReplayable, first_replay, FullOrderIsThere}
 use Rattle.replay_law.proofs.Local.{actor}
 use Rattle.replay_law.proofs.Went.{IsMade, act_of, flat_after, cursor_after, step_went}
-use Rattle.replay_law.proofs.Cursors.{left_stays}
+use Rattle.replay_law.proofs.Cursors.{index_there, left_stays}
 use Rattle.replay_law.proofs.Judged.{ActIs, act_is}
-use Rattle.replay_law.proofs.Meets.{finds_after}
+use Rattle.replay_law.proofs.Meets.{makes_in, finds_after}
 use Rattle.replay_law.proofs.Views.{Fits, Sound}
 use Rattle.replay_law.proofs.Deeds.{deed, chosen, allowed}
 use Rattle.replay_law.proofs.Boards.{made_of, board_local, index_of}
@@ -54,10 +54,6 @@ deed_count r (act.Lose h) d q is = sym (ap (λ (z : Run × Devices). z.0.count) 
 abbrev is_run : Item → Bool
 is_run Move = true
 is_run item = false
-
-abbrev makes_in : Item → Option Entry
-makes_in (Makes e) = Some e
-makes_in item = None
 
 move_means : (n : ℕ) (e : Entry) → item_at n (Some e) ≡ Move → count_of e ≢ n
 move_means n e is same = by (count_of e == n) (is_end e) (eq-eqb (count_of e) n same) is where
@@ -155,9 +151,6 @@ module _ (log : Log) (image : Image) (is : IsReplayable log image) where
 
   set_index : (xs : List ℕ) (h k : ℕ) → h < length xs → slice_index (slice_set xs h k) h ≡ k
   set_index xs h k l = index_is (slice_set xs h k) h k (set_here xs h k l)
-
-  other_index : (xs : List ℕ) (h g k : ℕ) → g ≢ h → slice_index (slice_set xs h k) g ≡ slice_index xs g
-  other_index xs h g k n = index_of (slice_set xs h k) g ∙ ap (λ o. unwrap_or o 0) (set_there xs h g k n) ∙ sym (index_of xs g)
 
   next_count : (h i : ℕ) (e f : Entry) → entry_at log h i ≡ Some e → entry_at log h (i + 1) ≡ Some f → item_count (Makes e) (count_of e) ≤ count_of f
   next_count h i (entries.Gain count page seq mode waits) f at then_at = next_rises log is.orderly.counts_rise_to_the_end h i (entries.Gain count page seq mode waits) f at then_at
@@ -270,7 +263,7 @@ module _ (log : Log) (image : Image) (is : IsReplayable log image) where
     | inl same ↦
         subst (λ k. slice_index places k ≤ slice_index (slice_set places h (slice_index places h + 1)) k) (sym same)
         (let own = set_index places h (slice_index places h + 1) l in omega (arith, own))
-    | inr n ↦ let other = other_index places h i (slice_index places h + 1) n in omega (arith, other)
+    | inr n ↦ let other = index_there places h i (slice_index places h + 1) n in omega (arith, other)
   ]
 
   grows_by : (s a : Replay FlatState) (h : ℕ) (item : Item) → (x : Goes s a h) → x.item ≡ item → Going s → Going a → progress s + 1 ≤ progress a

@@ -20,12 +20,11 @@ use Rattle.replay_law.proofs.Cursors.{guard_of, IsLeft, left_stays, takings, one
 use Rattle.replay_law.proofs.Tables.{held_stays, tables_meet}
 use Rattle.replay_law.proofs.Judged.{needs_devices, Finds, ActIs, guard_met, verdict_stays, act_stays, act_is}
 
-makes_in : Item → Option Entry
+abbrev pub makes_in : Item → Option Entry
 makes_in (Makes e) = Some e
 makes_in item = None
 
 pub entry_left : (n : ℕ) (o : Option Entry) (e : Entry) → item_at n o ≡ Makes e → o ≡ Some e
-unfolding makes_in
 entry_left n None e is = absurd (none-some _ (ap makes_in is))
 entry_left n (Some x) e is = by (count_of x == n) (is_end x) is where
   by : (a b : Bool) → (if not a then Move else if b then Ended else Makes x) ≡ Makes e → Some x ≡ Some e

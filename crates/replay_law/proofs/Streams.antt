@@ -15,7 +15,7 @@ use Rattle.hart_run.proofs.Lists.{within}
 stream_there : (log : Log) (h : ℕ) → h < length log.streams → slice_get log.streams h ≡ Some (stream log h)
 stream_there log h l = slice_get-get_or log.streams h [] l ∙ ap Some (sym (unwrap_or-slice_get log.streams h []))
 
-not_not : (b : Bool) → not b ≡ false → b ≡ true
+pub not_not : (b : Bool) → not b ≡ false → b ≡ true
 not_not true e = refl
 not_not false e = absurd (true≢false e)
 

@@ -1,7 +1,7 @@
 -- A hart that can go goes: the flat machine makes the act of its item.
 use Rattle.std.proofs.Common.{◌≡◌, ℕ, ◌+◌, ◌<◌, ◌≤◌, ◌==◌, ◌||◌, not, nat_lt, Bool, true, false, cond, List, [], ◌∷◌, length, Option, Some, None, is_some, slice_get, unwrap_or, true≢false, refl, sym, ap, ap₂, ◌∙◌, subst, arith, if◌then◌else◌}
 use Rattle.std.specs.Option.{option_map, option_and_then}
-use Rattle.std.proofs.lemmas.Bool.{eqb-true, ltb-true}
+use Rattle.std.proofs.lemmas.Bool.{eqb-true, le-ltb}
 use Rattle.std.proofs.lemmas.Option.{same_Some, slice_get-get_or}
 use Rattle.rv_hart.specs.State.{Hart}
 use Rattle.rv_hart.specs.Moves.{hart_at_start, need_of}
@@ -31,6 +31,7 @@ use Rattle.replay_law.proofs.Judged.{ActIs, act_is, passed, judge, met, guard_me
 use Rattle.replay_law.proofs.Views.{Sound}
 use Rattle.replay_law.proofs.Deeds.{chosen, allowed, bound_to, touched_run, polled_run, answered}
 use Rattle.replay_law.proofs.Boards.{made_of, calm}
+use Rattle.replay_law.proofs.Streams.{not_not}
 use Rattle.replay_law.proofs.Times.{not_before, time_after, touched_times}
 use Rattle.replay_law.proofs.Ending.{Going, going_first, going_lasts, makes_means}
 
@@ -45,16 +46,6 @@ at_least (Some t) a b l = omega arith
 there_is : {X : Type 0} (o : Option X) → is_some o ≡ true → (x : X) × (o ≡ Some x)
 there_is None e = absurd (true≢false (sym e))
 there_is (Some x) e = (x, refl)
-
-not_not : (b : Bool) → not b ≡ false → b ≡ true
-not_not true e = refl
-not_not false e = absurd (true≢false e)
-
-not_less : (a b : ℕ) → b ≤ a → nat_lt a b ≡ false
-not_less a b l = by (nat_lt a b) refl where
-  by : (c : Bool) → nat_lt a b ≡ c → nat_lt a b ≡ false
-  by true e = let less = ltb-true a b e in absurd (omega (arith, l, less))
-  by false e = e
 
 module _ (log : Log) (image : Image) (is : IsReplayable log image) where
   -- mtime isn't above the time before the next ordinal
@@ -150,7 +141,7 @@ module _ (log : Log) (image : Image) (is : IsReplayable log image) where
       let ordinal : ord ≡ s.cursor.ordinal = eqb-true ord s.cursor.ordinal (guard_met board s h (Makes (entries.Poll count ord time bits)) go) in
       let old : board.time s.flat ≤ time_before log ord = subst (λ k. board.time s.flat ≤ time_before log k) (sym ordinal) timely.time in
       let new = not_before log is.orderly.ordinals_and_times_rise h _ ord time (entries.Poll count ord time bits) left refl refl in
-      let less : nat_lt time s.flat.devices.mtime ≡ false = not_less time s.flat.devices.mtime (omega (arith, old, new)) in
+      let less : nat_lt time s.flat.devices.mtime ≡ false = le-ltb time s.flat.devices.mtime (omega (arith, old, new)) in
       let after : FlatState = polled s.flat h x (with_time time s.flat.devices) in
       (tt, (after, ap (option_and_then (poll_made s.flat h time)) at ∙ ap₂ (λ b c. cond (b || c) None (Some after)) two.0 less))
   acts s h x (Makes (entries.Touch count ord input)) timely at due go =
