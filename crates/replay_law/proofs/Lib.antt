@@ -19,4 +19,3 @@ pub mod Totals
 pub mod Ending
 pub mod Times
 pub mod Timely
-pub mod Outcomes

@@ -24,7 +24,7 @@ use Rattle.replay_model.specs.Board.{board, hart_access}
 use Rattle.replay_model.specs.State.{Replay, want}
 use Rattle.replay_model.specs.Items.{Item, Ended, Move, Makes, Verdict, CanGo, item_at, tests, verdict_on, verdict, next_item, ends_reservation, step}
 use Rattle.hart_run.specs.Run.{Run, move_held}
-use Rattle.replay_law.specs.Laws.{IsReplayable, first_replay}
+use Rattle.replay_law.specs.Laws.{IsReplayable, first_replay, CanGoGoes}
 use Rattle.replay_law.proofs.Local.{is_on_devices}
 use Rattle.replay_law.proofs.Went.{IsMade, act_of, flat_after, cursor_after, step_went, step_goes}
 use Rattle.replay_law.proofs.Judged.{ActIs, act_is, passed, judge, met, guard_met}
@@ -171,3 +171,6 @@ module _ (log : Log) (image : Image) (is : IsReplayable log image) where
       let at = slice_get-get_or s.flat.harts h (hart_at_start 0 0 0 0) inside in
       let a = acts s h _ (next_item board log s h) timely at refl go in
       (_, step_goes board log s h (next_item board log s h) a.1.0 refl go a.0 a.1.1)
+
+pub reached_goes : CanGoGoes
+reached_goes log image order s h is obeys l go = can_go_goes log image is s h (timely log image is s obeys.0 obeys.2) l go

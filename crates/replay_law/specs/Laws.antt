@@ -68,11 +68,3 @@ LeastEndsThere = (log : Log) (image : Image) (order : List ℕ) (s : Replay Flat
 abbrev pub OrdersTellOutcome : Type 0
 OrdersTellOutcome = (log : Log) (image : Image) (order : List ℕ) (s : Replay FlatState) (outcome : Outcome FlatState) → IsReplayable log image → IsFullOrder board log (first_replay log image) order s
     → outcome_at board log s ≡ Some outcome → IsOutcome board log (first_flat log image) outcome
-
--- a replay has an outcome
-abbrev pub OutcomeIsThere : Type 0
-OutcomeIsThere = (log : Log) (image : Image) → IsReplayable log image → (outcome : Outcome FlatState) × IsOutcome board log (first_flat log image) outcome
-
--- and no other
-abbrev pub OutcomeIsOne : Type 0
-OutcomeIsOne = (log : Log) (first : FlatState) (outcome other : Outcome FlatState) → IsOutcome board log first outcome → IsOutcome board log first other → outcome ≡ other

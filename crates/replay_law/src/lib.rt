@@ -2,7 +2,7 @@
 //! promise the laws.
 #![tactic(auto)]
 
-ghost use Rattle.replay_law.specs.Laws.{CanGoGoes, ItemsCommute, EqualSharesAgree, AllOrdersAgree, AtomicsAgree, FullOrderIsThere, LeastEndsThere, OrdersTellOutcome, OutcomeIsThere, OutcomeIsOne};
+ghost use Rattle.replay_law.specs.Laws.{CanGoGoes, ItemsCommute, EqualSharesAgree, AllOrdersAgree, AtomicsAgree, FullOrderIsThere, LeastEndsThere, OrdersTellOutcome};
 
 /// A hart that can go makes its item: an order is full only where no hart can go.
 pub fn can_go_goes()
@@ -36,10 +36,4 @@ pub fn full_order_is_there()
 pub fn least_ends_there()
     ensures state { LeastEndsThere }
     ensures outcome { OrdersTellOutcome }
-{}
-
-/// A replay of an orderly log has an outcome, and one alone.
-pub fn outcomes_are_one()
-    ensures there { OutcomeIsThere }
-    ensures one { OutcomeIsOne }
 {}

@@ -1,5 +1,5 @@
-use Rattle.replay_law.proofs.Outcomes.{outcome_is_there, outcome_is_one}
-use Rattle.replay_law.proofs.outcomes_are_one.Goals as goal
+use Rattle.replay_ends.proofs.Outcomes.{outcome_is_there, outcome_is_one}
+use Rattle.replay_ends.proofs.outcomes_are_one.Goals as goal
 
 pub returns-clause-there : goal.returns-clause-there
 returns-clause-there c = outcome_is_there

@@ -16,13 +16,11 @@ use Rattle.replay_model.specs.State.{Replay, start}
 use Rattle.replay_model.specs.Items.{Verdict, HasEnded, Holds, CanGo, HasDiverged, Obeys, IsFullOrder, verdict, step}
 use Rattle.replay_model.specs.Outcome.{Outcome, Done, Diverged, rule_of, is_ended, cause_agrees, all_ended, diverged, least_diverged, outcome_at}
 use Rattle.replay_ends.proofs.GoingOn.{nobody_holds_alone}
-use Rattle.replay_law.specs.Laws.{IsReplayable, first_flat, first_replay, CanGoGoes, OutcomeIsThere, OutcomeIsOne}
-use Rattle.replay_law.proofs.Timely.{timely, can_go_goes}
+use Rattle.replay_law.specs.Laws.{IsReplayable, first_flat, first_replay}
+use Rattle.replay_ends.specs.Laws.{OutcomeIsThere, OutcomeIsOne}
+use Rattle.replay_law.proofs.Timely.{reached_goes}
 use Rattle.replay_law.proofs.Orders.{orders_tell_outcome}
 use Rattle.replay_law.proofs.Ending.{full_order_is_there}
-
-pub reached_goes : CanGoGoes
-reached_goes log image order s h is obeys l go = can_go_goes log image is s h (timely log image is s obeys.0 obeys.2) l go
 
 both_empty : {X : Type 0} (xs ys : List X) → xs ++ ys ≡ [] → (xs ≡ []) × (ys ≡ [])
 both_empty [] ys e = (refl, e)
