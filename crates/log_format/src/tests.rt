@@ -23,25 +23,6 @@ const FIELDS: [u64; 26] = [
     114, 122,
 ];
 
-/// A byte of it that is set to another value, and the offset and the rule that are answered.
-const DAMAGED: [(usize, u8, u64, u8); 15] = [
-    (0, 0, 0, 2),
-    (4, 9, 4, 3),
-    (5, 0, 5, 4),
-    (6, 0, 6, 5),
-    (15, 255, 8, 6),
-    (48, 3, 114, 14),
-    (48, 5, 123, 1),
-    (52, 6, 52, 7),
-    (73, 4, 73, 11),
-    (83, 1, 83, 8),
-    (89, 3, 89, 9),
-    (90, 8, 90, 10),
-    (104, 4, 104, 12),
-    (105, 1, 105, 12),
-    (122, 6, 122, 13),
-];
-
 fn smallest_log(alloc: Global) -> Result<Log, Fail> {
     let gain = Entry::Gain {
         count: 0,
@@ -141,14 +122,6 @@ fn field_of(offset: u64) -> u64 {
     first
 }
 
-fn damaged(alloc: Global, at: usize, value: u8) -> Result<Vec<u8>, Fail> {
-    let mut bytes = SMALLEST.to_vec(alloc)?;
-    if let Some(byte) = bytes.get_mut(at) {
-        *byte = value;
-    }
-    Ok(bytes)
-}
-
 #[test]
 fn the_smallest_log_is_written_as_its_bytes_and_read_again(rt: HostRuntime) -> Result<(), Fail> {
     let log = smallest_log(rt.alloc())?;
@@ -169,30 +142,6 @@ fn a_cut_log_is_refused_at_the_field_that_is_cut(rt: HostRuntime) {
         let answer = refusal(rt.alloc(), &SMALLEST[..size]);
         assert_eq!(rt; answer, Some(ReadError::Malformed { offset, rule: 1 }));
     }
-}
-
-#[test]
-fn a_damaged_log_is_refused_at_its_first_bad_field(rt: HostRuntime) -> Result<(), Fail> {
-    for (at, value, offset, rule) in DAMAGED {
-        let answer = refusal(rt.alloc(), &damaged(rt.alloc(), at, value)?);
-        assert_eq!(rt; answer, Some(ReadError::Malformed { offset, rule }));
-    }
-    Ok(())
-}
-
-#[test]
-fn no_room_is_taken_for_entries_that_are_not_there(rt: HostRuntime) -> Result<(), Fail> {
-    let mut bytes = SMALLEST.to_vec(rt.alloc())?;
-    bytes[48..52].copy_from_slice(&[255; 4]);
-    let answer = refusal(rt.alloc(), &bytes);
-    assert_eq!(rt;
-        answer,
-        Some(ReadError::Malformed {
-            offset: 123,
-            rule: 1
-        })
-    );
-    Ok(())
 }
 
 #[test]

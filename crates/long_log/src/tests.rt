@@ -1,8 +1,9 @@
 use crate::making::long_log;
 use crate::{measure, spell};
+use Refusal::{Disorderly, Malformed};
 use anyhow::{Result, anyhow};
 use log_entry::{Cause, Entries, Entry, Log, Mode, Streams, WaitFor, Waits};
-use log_format::read_log;
+use log_format::{ReadError, read_log};
 use log_order::{Leg, OrderError, Orderly, least_order, put_in_order};
 use std::alloc::Global;
 
@@ -72,12 +73,39 @@ const SMALLEST: [u8; 123] = [
     1, // cause
 ];
 
-/// A byte of it that is set to another value, and the rule, the hart and the entry that are told.
-const DAMAGED: [(usize, u8, u8, u8, u32); 3] = [
-    (8, 2, 1, 0, 3),
-    (85, 1, 5, 0, 1),
-    (100, 2, 8, 0, 2),
-];
+/// Why bytes are not taken: the offset and the rule of a bad field, or the broken rule, the hart and
+/// the entry.
+#[derive(Clone, Copy, Debug, PartialEq, Eq)]
+enum Refusal {
+    Malformed(u64, u8),
+    Disorderly(u8, u8, u32),
+}
+
+/// Bytes of the smallest log from one offset up to another, the value that they are set to, and the
+/// refusal.
+fn damages() -> [(usize, usize, u8, Refusal); 19] {
+    [
+        (0, 1, 0, Malformed(0, 2)),
+        (4, 5, 9, Malformed(4, 3)),
+        (5, 6, 0, Malformed(5, 4)),
+        (6, 7, 0, Malformed(6, 5)),
+        (15, 16, 255, Malformed(8, 6)),
+        (48, 49, 3, Malformed(114, 14)),
+        (48, 49, 5, Malformed(123, 1)),
+        (48, 52, 255, Malformed(123, 1)),
+        (52, 53, 6, Malformed(52, 7)),
+        (73, 74, 4, Malformed(73, 11)),
+        (83, 84, 1, Malformed(83, 8)),
+        (89, 90, 3, Malformed(89, 9)),
+        (90, 91, 8, Malformed(90, 10)),
+        (104, 105, 4, Malformed(104, 12)),
+        (105, 106, 1, Malformed(105, 12)),
+        (122, 123, 6, Malformed(122, 13)),
+        (8, 9, 2, Disorderly(1, 0, 3)),
+        (85, 86, 1, Disorderly(5, 0, 1)),
+        (100, 101, 2, Disorderly(8, 0, 2)),
+    ]
+}
 
 /// Two harts that race for a word of page 1.
 fn race_log(alloc: Global) -> Result<Log> {
@@ -116,12 +144,28 @@ fn ordered(alloc: Global, log: &Log) -> Result<Orderly> {
     Ok(put_in_order(alloc, read_log(alloc, &bytes)?)?)
 }
 
-fn refusal(alloc: Global, bytes: &[u8]) -> Result<Option<OrderError>> {
-    Ok(put_in_order(alloc, read_log(alloc, bytes)?).err())
+fn judged(alloc: Global, bytes: &[u8]) -> Result<Option<Refusal>> {
+    match read_log(alloc, bytes) {
+        Ok(log) => match put_in_order(alloc, log) {
+            Ok(_) => Ok(None),
+            Err(OrderError::Disorderly { rule, hart, entry }) => {
+                Ok(Some(Disorderly(rule, hart, entry)))
+            }
+            Err(e) => Err(e.into()),
+        },
+        Err(ReadError::Malformed { offset, rule }) => Ok(Some(Malformed(offset, rule))),
+        Err(e) => Err(e.into()),
+    }
 }
 
-fn disorderly(rule: u8, hart: u8, entry: u32) -> Option<OrderError> {
-    Some(OrderError::Disorderly { rule, hart, entry })
+fn damaged(alloc: Global, from: usize, to: usize, value: u8) -> Result<Vec<u8>> {
+    let mut bytes = SMALLEST.to_vec(alloc)?;
+    for at in from..to {
+        if let Some(byte) = bytes.get_mut(at) {
+            *byte = value;
+        }
+    }
+    Ok(bytes)
 }
 
 fn legs(alloc: Global, orderly: &Orderly) -> Result<Vec<Leg>> {
@@ -161,14 +205,12 @@ fn the_least_order_of_a_race_waits_for_its_numbers(rt: HostRuntime) -> Result<()
 }
 
 #[test]
-fn a_damaged_log_is_refused_by_its_least_broken_rule(rt: HostRuntime) -> Result<()> {
-    let alloc = rt.alloc();
-    for (at, value, rule, hart, entry) in DAMAGED {
-        let mut bytes = SMALLEST.to_vec(alloc)?;
-        if let Some(byte) = bytes.get_mut(at) {
-            *byte = value;
-        }
-        assert_eq!(rt; refusal(alloc, &bytes)?, disorderly(rule, hart, entry));
+fn a_damaged_log_is_refused_at_its_first_bad_field_or_by_its_least_broken_rule(
+    rt: HostRuntime,
+) -> Result<()> {
+    for (from, to, value, expected) in damages() {
+        let bytes = damaged(rt.alloc(), from, to, value)?;
+        assert_eq!(rt; judged(rt.alloc(), &bytes)?, Some(expected));
     }
     Ok(())
 }
@@ -178,7 +220,7 @@ fn two_harts_cant_have_one_number(rt: HostRuntime) -> Result<()> {
     let alloc = rt.alloc();
     let streams = vec![in alloc; gains(alloc, &[(0, 0)])?, gains(alloc, &[(0, 0)])?]?;
     let bytes = spell(alloc, &log(1, 0, streams))?;
-    assert_eq!(rt; refusal(alloc, &bytes)?, disorderly(5, 1, 0));
+    assert_eq!(rt; judged(alloc, &bytes)?, Some(Disorderly(5, 1, 0)));
     Ok(())
 }
 
@@ -188,7 +230,7 @@ fn two_harts_cant_wait_for_each_other(rt: HostRuntime) -> Result<()> {
     let first = gains(alloc, &[(0, 1), (1, 0)])?;
     let second = gains(alloc, &[(1, 1), (0, 0)])?;
     let bytes = spell(alloc, &log(2, 0, vec![in alloc; first, second]?))?;
-    assert_eq!(rt; refusal(alloc, &bytes)?, disorderly(9, 0, 0));
+    assert_eq!(rt; judged(alloc, &bytes)?, Some(Disorderly(9, 0, 0)));
     Ok(())
 }
 
