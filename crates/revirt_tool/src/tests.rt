@@ -1,7 +1,13 @@
+ghost use Rattle.std.specs.Prelude.{◌≡◌, ◌∷◌, [], IfOk, codes};
+ghost use Rattle.command_words.specs.Texts.{texts};
+
 use crate::{Finish, revirt};
 use log_entry::{Entry, Log};
 use log_format::read_log;
-use outside::{Asked, MemClock, MemConsole, MemShelf, MemSink, OpenGate, SureConsole};
+use outside::{
+    Asked, MemClock, MemConsole, MemShelf, MemSink, OpenGate, SureConsole, SureShelf, SureSink,
+};
+use rv_words::{Input, Mode};
 use std::alloc::Global;
 use std::sync::Wait;
 use std::test::Fail;
@@ -9,7 +15,7 @@ use std::thread::Threads;
 
 /// A command line over the guest `g`, a console with these answers and then End, and a clock that answers
 /// the same each time, with the numbers of the calls that fail; and what it comes to: its status, lines that
-/// its text has, the length of the log `l`, and each entry of the log by its letter and count.
+/// its text has, the length of the log `l`, and the entries of the log.
 #[derive(Drop)]
 struct Row {
     line: &'static str,
@@ -74,7 +80,7 @@ fn limits() -> [Row; 4] {
         "cause limit\nhart 0 count 4096 pc 80000000",
     );
     first.length = 101;
-    first.entries = "p0 g0 e4096";
+    first.entries = "p0:0.5.0 g0:0.0r e4096";
     let mut second = plain_row(
         "record g l --pages 1 --limit 4097",
         round(),
@@ -82,7 +88,7 @@ fn limits() -> [Row; 4] {
         "cause limit",
     );
     second.length = 123;
-    second.entries = "p0 g0 p4096 e4097";
+    second.entries = "p0:0.5.0 g0:0.0r p4096:1.5.0 e4097";
     let mut traps = plain_row(
         "record g l --pages 1 --limit 2",
         &[],
@@ -90,7 +96,7 @@ fn limits() -> [Row; 4] {
         "hart 0 count 2 pc 00000000\ncsr 00001800 00000000 00000000 00000000 00000000 00000001 00000000 00000000\ncounters 0000000000000002 0000000000000000",
     );
     traps.length = 101;
-    traps.entries = "p0 g0 e2";
+    traps.entries = "p0:0.5.0 g0:0.0r e2";
     [none, first, second, traps]
 }
 
@@ -106,10 +112,10 @@ fn devices() -> [Row; 4] {
             0x1810_a2af,
         ],
         0,
-        "cause limit\nhart 0 count 5 pc 80000014\nx0 00000000 80001000 00000000 00000001 80001004 00000001 00000000 00000000",
+        "cause limit\nhart 0 count 5 pc 80000014\nx0 00000000 80001000 00000000 00000001 80001004 00000001 00000000 00000000\nmemory e2fbbf26961e04111603ae85b5264264606bfa03757f2446f24cd1853c850d52",
     );
     pages.length = 118;
-    pages.entries = "p0 g0 g1 e5";
+    pages.entries = "p0:0.5.0 g0:0.0r g1:1.0w e5";
     let mut timer = plain_row(
         "record g l --pages 1 --limit 4",
         &[0x0800_0093, 0x3040_9073, 0x3004_6073],
@@ -118,7 +124,7 @@ fn devices() -> [Row; 4] {
     );
     timer.time = u64::MAX;
     timer.length = 101;
-    timer.entries = "p0 g0 e4";
+    timer.entries = "p0:0.18446744073709551615.2 g0:0.0r e4";
     let mut software = plain_row(
         "record g l --pages 1 --limit 6",
         &[
@@ -133,7 +139,7 @@ fn devices() -> [Row; 4] {
         "x0 00000000 02000000 00000001 00000008 00000000 00000000 00000000 00000000",
     );
     software.length = 145;
-    software.entries = "p0 g0 t2 t4 e6";
+    software.entries = "p0:0.5.0 g0:0.0r t2:1.n t4:2.n e6";
     let mut input = plain_row(
         "record g l --pages 1 --limit 100",
         &[
@@ -148,7 +154,7 @@ fn devices() -> [Row; 4] {
     );
     input.answers = &[Asked::Nothing, Asked::Byte(0x41)];
     input.length = 189;
-    input.entries = "p0 g0 t1 t2 t3 t4 e5";
+    input.entries = "p0:0.5.0 g0:0.0r t1:1.e t2:2.b65 t3:3.e t4:4.n e5";
     [pages, timer, software, input]
 }
 
@@ -158,21 +164,21 @@ fn faults() -> [Row; 9] {
     let mut console = plain_row(words, sends(), 5, "cause fault");
     console.console_fails = &[2];
     console.length = 145;
-    console.entries = "p0 g0 t2 t3 e4";
+    console.entries = "p0:0.5.0 g0:0.0r t2:1.n t3:2.n e4";
     let mut unkept = plain_row(words, sends(), 4, "shelf fault");
     unkept.console_fails = &[2];
     unkept.shelf_fails = &[5];
     unkept.length = 145;
-    unkept.entries = "p0 g0 t2 t3 e4";
+    unkept.entries = "p0:0.5.0 g0:0.0r t2:1.n t3:2.n e4";
     let mut unprinted = plain_row(words, sends(), 5, "");
     unprinted.console_fails = &[2];
     unprinted.sink_fails = &[0];
     unprinted.length = 145;
-    unprinted.entries = "p0 g0 t2 t3 e4";
+    unprinted.entries = "p0:0.5.0 g0:0.0r t2:1.n t3:2.n e4";
     let mut report = plain_row(words, smallest(), 11, "");
     report.sink_fails = &[0];
     report.length = 123;
-    report.entries = "p0 g0 t2 e3";
+    report.entries = "p0:0.5.0 g0:0.0r t2:1.n e3";
     let mut fetch = plain_row(words, smallest(), 4, "shelf fault");
     fetch.shelf_fails = &[0];
     let mut begin = plain_row(words, smallest(), 4, "shelf fault");
@@ -278,22 +284,56 @@ fn has_lines(text: &[u8], lines: &str) -> bool {
     true
 }
 
-/// The entries of a log, each by its letter and count.
+/// The input of a device access.
+fn input_of(alloc: Global, input: Input) -> Result<String, Fail> {
+    match input {
+        Input::Nothing => Ok(String::from_str(alloc, "n")?),
+        Input::Empty => Ok(String::from_str(alloc, "e")?),
+        Input::Byte(byte) => Ok(format!(in alloc; "b{byte}")?),
+        Input::Time(time) => Ok(format!(in alloc; "t{time}")?),
+    }
+}
+
+/// An entry by its letter and count, and what it has further.
+fn spelled(alloc: Global, entry: &Entry) -> Result<String, Fail> {
+    match entry {
+        Entry::Gain {
+            count,
+            page,
+            seq,
+            mode: Mode::Read,
+            ..
+        } => Ok(format!(in alloc; "g{count}:{page}.{seq}r")?),
+        Entry::Gain {
+            count,
+            page,
+            seq,
+            ..
+        } => Ok(format!(in alloc; "g{count}:{page}.{seq}w")?),
+        Entry::Yield { count, .. } => Ok(format!(in alloc; "y{count}")?),
+        Entry::Poll {
+            count,
+            ord,
+            time,
+            bits,
+        } => Ok(format!(in alloc; "p{count}:{ord}.{time}.{bits}")?),
+        Entry::Touch { count, ord, input } => {
+            let input = input_of(alloc, *input)?;
+            Ok(format!(in alloc; "t{count}:{ord}.{input}")?)
+        }
+        Entry::End { count } => Ok(format!(in alloc; "e{count}")?),
+    }
+}
+
+/// The entries of a log, parted by blanks.
 fn entries_of(alloc: Global, log: &Log) -> Result<String, Fail> {
     let mut text = String::new(alloc);
     for stream in log.streams.items() {
         for entry in stream.items() {
-            let (letter, count) = match entry {
-                Entry::Gain { count, .. } => ("g", *count),
-                Entry::Yield { count, .. } => ("y", *count),
-                Entry::Poll { count, .. } => ("p", *count),
-                Entry::Touch { count, .. } => ("t", *count),
-                Entry::End { count } => ("e", *count),
-            };
             if !text.is_empty() {
                 text.push_str(" ")?;
             }
-            text.push_str(format!(in alloc; "{letter}{count}")?.as_str())?;
+            text.push_str(spelled(alloc, entry)?.as_str())?;
         }
     }
     Ok(text)
@@ -388,13 +428,22 @@ fn is_kept_whole(ran: &Ran) -> bool {
         && ran.report.written() == smallest_report().as_bytes()
 }
 
-/// Whether a dump of one page begins with the guest and ends, behind the page, with what was sent.
+/// Whether these bytes, where they are there, are zeros.
+fn are_zeros(bytes: Option<&[u8]>) -> bool {
+    match bytes {
+        Some(bytes) => bytes.iter().all(|byte| *byte == 0),
+        None => false,
+    }
+}
+
+/// Whether a dump of one page is the guest, zeros up to the page's end, and then what was sent.
 fn is_dump(dump: Option<&[u8]>, guest: &[u8], sent: &[u8]) -> bool {
     match dump {
         Some(bytes) => {
             bytes.len() >= 4096
                 && bytes.len() - 4096 == sent.len()
                 && bytes.starts_with(guest)
+                && are_zeros(bytes.get(guest.len()..4096))
                 && bytes.ends_with(sent)
         }
         None => false,
@@ -430,6 +479,68 @@ fn a_console_that_fails_has_taken_what_the_dump_says(rt: HostRuntime) -> Result<
     Ok(())
 }
 
+/// The start digest of JAL to itself on a board of one page.
+fn round_digest() -> [u8; 32] {
+    [
+        0x17, 0xa9, 0x7c, 0x41, 0x31, 0x48, 0x03, 0xbe, 0x89, 0x61, 0x5f, 0x43, 0x2b, 0xeb, 0x27,
+        0x78, 0x11, 0xb2, 0x1c, 0x76, 0xf3, 0xca, 0x01, 0x92, 0x11, 0x0b, 0x83, 0x3f, 0xd9, 0xfe,
+        0x91, 0x92,
+    ]
+}
+
+/// Whether the head of a log has this start digest.
+fn has_digest(log: Option<&[u8]>, digest: &[u8]) -> bool {
+    match log {
+        Some(bytes) => bytes.get(16..48) == Some(digest),
+        None => false,
+    }
+}
+
+#[test]
+fn a_log_names_the_start_of_its_run(rt: HostRuntime) -> Result<(), Fail> {
+    let alloc = rt.alloc();
+    let row = plain_row("record g l --pages 1 --limit 0", round(), 0, "");
+    let file = bytes_of(alloc, round())?;
+    let ran = serve(&rt, alloc, &row, file.as_slice())?;
+    assert!(rt; has_digest(ran.shelf.held("l"), &round_digest()));
+    Ok(())
+}
+
+/// The smallest guest as a linker writes it: attributes, code of two words, a word of data with twelve zeros
+/// behind it, and the stack's flags.
+fn linked() -> &'static [u8] {
+    &[
+        // the header
+        0x7f, 0x45, 0x4c, 0x46, 0x01, 0x01, 0x01, 0x00, 0x00, 0x00, 0x00, 0x00, 0x00, 0x00, 0x00,
+        0x00, 0x02, 0x00, 0xf3, 0x00, 0x01, 0x00, 0x00, 0x00, 0x00, 0x00, 0x00, 0x80, 0x34, 0x00,
+        0x00, 0x00, 0x00, 0x00, 0x00, 0x00, 0x00, 0x00, 0x00, 0x00, 0x34, 0x00, 0x20, 0x00, 0x04,
+        0x00, 0x00, 0x00, 0x00, 0x00, 0x00, 0x00, // RISC-V attributes
+        0x03, 0x00, 0x00, 0x70, 0xb4, 0x00, 0x00, 0x00, 0x00, 0x00, 0x00, 0x00, 0x00, 0x00, 0x00,
+        0x00, 0x00, 0x00, 0x00, 0x00, 0x00, 0x00, 0x00, 0x00, 0x04, 0x00, 0x00, 0x00, 0x01, 0x00,
+        0x00, 0x00, // PT_LOAD, eight bytes at 0x80000000
+        0x01, 0x00, 0x00, 0x00, 0xb4, 0x00, 0x00, 0x00, 0x00, 0x00, 0x00, 0x80, 0x00, 0x00, 0x00,
+        0x80, 0x08, 0x00, 0x00, 0x00, 0x08, 0x00, 0x00, 0x00, 0x05, 0x00, 0x00, 0x00, 0x04, 0x00,
+        0x00, 0x00, // PT_LOAD, four bytes and twelve zeros at 0x80000008
+        0x01, 0x00, 0x00, 0x00, 0xbc, 0x00, 0x00, 0x00, 0x08, 0x00, 0x00, 0x80, 0x08, 0x00, 0x00,
+        0x80, 0x04, 0x00, 0x00, 0x00, 0x10, 0x00, 0x00, 0x00, 0x06, 0x00, 0x00, 0x00, 0x04, 0x00,
+        0x00, 0x00, // the stack
+        0x51, 0xe5, 0x74, 0x64, 0x00, 0x00, 0x00, 0x00, 0x00, 0x00, 0x00, 0x00, 0x00, 0x00, 0x00,
+        0x00, 0x00, 0x00, 0x00, 0x00, 0x00, 0x00, 0x00, 0x00, 0x06, 0x00, 0x00, 0x00, 0x10, 0x00,
+        0x00, 0x00, // the bytes of the segments
+        0xb7, 0x00, 0x00, 0x10, 0x13, 0x01, 0x70, 0x00, 0x23, 0xa4, 0x20, 0x00,
+    ]
+}
+
+#[test]
+fn a_linked_guest_runs_as_its_memory_does(rt: HostRuntime) -> Result<(), Fail> {
+    let alloc = rt.alloc();
+    let row = plain_row("record g l --pages 1 --limit 100", &[], 0, "");
+    let ran = serve(&rt, alloc, &row, linked())?;
+    assert_eq!(rt; ran.status, 0);
+    assert!(rt; is_kept_whole(&ran));
+    Ok(())
+}
+
 /// The status and the text for a file.
 fn refuses<T: Threads + Wait + Sync>(
     rt: &T,
@@ -443,12 +554,25 @@ fn refuses<T: Threads + Wait + Sync>(
     Ok(!begun && ran.status == 2 && has_lines(ran.report.written(), line))
 }
 
+/// The first bytes of a file, and none where it has fewer.
+fn first_of(file: &[u8], many: usize) -> &[u8] {
+    match file.get(..many) {
+        Some(bytes) => bytes,
+        None => &[],
+    }
+}
+
 #[test]
 fn a_file_that_breaks_a_rule_is_refused(rt: HostRuntime) -> Result<(), Fail> {
     let alloc = rt.alloc();
     let large = vec![in alloc; 0u8; 4097]?;
     assert!(rt; refuses(&rt, alloc, large.as_slice(), "image refused: I2")?);
-    assert!(rt; refuses(&rt, alloc, b"\x7fELF", "image refused: I1")?);
+    assert!(rt; refuses(&rt, alloc, first_of(linked(), 40), "image refused: I1")?);
+    let mut compressed = Vec::from_slice(alloc, linked())?;
+    if let Some(flags) = compressed.get_mut(36) {
+        *flags = 1;
+    }
+    assert!(rt; refuses(&rt, alloc, compressed.as_slice(), "image refused: I8")?);
     Ok(())
 }
 
@@ -476,6 +600,7 @@ fn a_full_log_ends_the_run(rt: HostRuntime) -> Result<(), Fail> {
     let row = plain_row(words, round(), 0, "");
     let file = bytes_of(alloc, round())?;
     let ran = serve(&rt, alloc, &row, file.as_slice())?;
+    assert_eq!(rt; ran.status, 0);
     assert!(rt; has_lines(ran.report.written(), "cause full"));
     assert!(rt; is_full(alloc, ran.shelf.held("l"), " e172032")?);
     Ok(())
@@ -501,5 +626,47 @@ fn an_image_that_is_too_long_is_refused(rt: HostRuntime) -> Result<(), Fail> {
     );
     assert_eq!(rt; status, 9);
     assert_eq!(rt; report.written(), b"too long: image\n".as_slice());
+    Ok(())
+}
+
+/// The words that record the guest `g`.
+fn smallest_words(alloc: Global) -> Result<Vec<String>, Fail>
+    ensures { IfOk result (λ v. texts v.items ≡ codes "record" ∷ codes "g" ∷ codes "l" ∷ codes "--pages" ∷ codes "1" ∷ codes "--limit" ∷ codes "100" ∷ []) }
+{
+    Ok(vec![in alloc;
+        String::from_str(alloc, "record")?,
+        String::from_str(alloc, "g")?,
+        String::from_str(alloc, "l")?,
+        String::from_str(alloc, "--pages")?,
+        String::from_str(alloc, "1")?,
+        String::from_str(alloc, "--limit")?,
+        String::from_str(alloc, "100")?,
+    ]?)
+}
+
+/// The status over a shelf, a console and a sink that never fail; 255 where the shelf has no room.
+fn serve_surely<T: Threads + Wait + Sync>(rt: &T, alloc: Global) -> Result<u8, Fail> {
+    let words = smallest_words(alloc)?;
+    let file = bytes_of(alloc, smallest())?;
+    let mut shelf = SureShelf::start(alloc, 100)?;
+    if !shelf.hold("g", file.as_slice()) {
+        return Ok(255);
+    }
+    let Finish { status, .. } = revirt(
+        rt,
+        alloc,
+        &words,
+        &mut shelf,
+        SureConsole::start(),
+        MemClock::start(5, 0),
+        &OpenGate,
+        &mut SureSink::start(),
+    );
+    Ok(status)
+}
+
+#[test]
+fn what_never_fails_is_done(rt: HostRuntime) -> Result<(), Fail> {
+    assert_eq!(rt; serve_surely(&rt, rt.alloc())?, 0);
     Ok(())
 }
