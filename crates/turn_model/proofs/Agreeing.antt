@@ -323,7 +323,7 @@ module _ {S V : Type 0} (machine : Machine S V) (terms : Terms) (many pages : 鈩
       opens = 位 b one none running. one;
       rests = 位 b one. one;
       goes = 位 b until one. one;
-      holds = 位 b n g low one. aside b (with_want h (Some n) b) refl refl one;
+      holds = 位 b n g low wants one. aside b (with_want h (Some n) b) refl refl one;
       fills = 位 b low one. aside b (closes causes.Full b) refl refl one;
       fills_for = 位 b g n other is one. aside b (closes causes.Full b) refl refl one;
       fails = 位 b low one. aside b (closes causes.Fault b) refl refl one;

@@ -24,7 +24,7 @@ abbrev pub MakesNone : Option Order → Type 0
 MakesNone (Some (Go until)) = ⊥
 MakesNone order = Unit {0}
 
-cleared : (wants : List (Option (ℕ × Mode))) (h : ℕ) → unwrap_or (slice_get (slice_set wants h None) h) None ≡ None
+pub cleared : (wants : List (Option (ℕ × Mode))) (h : ℕ) → unwrap_or (slice_get (slice_set wants h None) h) None ≡ None
 cleared [] h = refl
 cleared (w ∷ wants) zero = refl
 cleared (w ∷ wants) (suc h) = cleared wants h
@@ -128,7 +128,7 @@ module _ {S V : Type 0} (machine : Machine S V) (terms : Terms) (many pages : �
       opens = λ b before none running. record { wants = before.wants; none = none; running = running };
       rests = λ b during. record { wants = all_wait Rest b during.wants; closed = subst (ClosedSo (with_order h Rest b)) (sym during.none) during.running };
       goes = λ b until during. record { wants = all_wait (Go until) b during.wants; closed = subst (ClosedSo (with_order h (Go until) b)) (sym during.none) during.running };
-      holds = λ b n g low during. record { wants = holds_wait b n g low during.wants; closed = subst (ClosedSo (with_order h (Hold n.0 g) (with_want h (Some n) b))) (sym during.none) during.running };
+      holds = λ b n g low wants during. record { wants = holds_wait b n g low during.wants; closed = subst (ClosedSo (with_order h (Hold n.0 g) (with_want h (Some n) b))) (sym during.none) during.running };
       fills = λ b low during. record { wants = all_wait Rest (closes causes.Full b) during.wants; closed = closes_so causes.Full b (with_order h Rest (closes causes.Full b)) during.none (during.running, (h, inside, own_waits Rest b tt low)) };
       fills_for = λ b g n other is during. record {
         wants = all_wait Rest (closes causes.Full b) during.wants;

@@ -36,14 +36,14 @@ use Rattle.replay_model.specs.State.{Replay, want}
 use Rattle.replay_model.specs.Items.{Makes, Holds, CanGo, judged, broken_rule, verdict_on, made, acted, past}
 use Rattle.replay_model.proofs.Driving.{mapped}
 use Rattle.replay_model.proofs.Follow.{held_here, held_elsewhere}
-use Rattle.crew_recording.proofs.Streams.{stream_here}
+use Rattle.crew_recording.proofs.Streams.{stream_here, set_there}
 use Rattle.turn_model.specs.Machine.{Machine}
 use Rattle.turn_model.specs.Board.{Board, Rest, Outside, Terms, harts, stream, wanted, closes, is_at_limit, log_of}
 use Rattle.turn_model.specs.Claims.{holds_so, clash, rival, kept_by}
 use Rattle.turn_model.specs.Entering.{Way, On, Ends, Nowhere, goes, on, has_room, with_room, entered}
 use Rattle.turn_model.specs.Steps.{with_want, next_number, console_gives, clock_gives, clock_answers, rests_where_closed, rests_at_limit, is_due, poll_at, polls_with, polls, yield_of, yields_now, yields_for, yields_to, yields, gain_of, gains_unless, gains_page, gains, touch_of, behind_touch, touched, touches_at, touches_with, accesses, touches, next_poll, goes_on, passes_favour}
 use Rattle.turn_model.specs.Faithful.{IsFaithful, AllBelow}
-use Rattle.turn_model.proofs.Ways.{recording_of, IsSound, Went, Comes, aside, both, shifts, further}
+use Rattle.turn_model.proofs.Ways.{recording_of, IsSound, Went, Comes, IsMeant, aside, both, shifts, further}
 
 there : (xs : List ℕ) (i : ℕ) → i < length xs → slice_get xs i ≡ Some (slice_index xs i)
 there [] i l = absurd (omega (arith, l))
@@ -78,7 +78,7 @@ at_most a b e = elim (leb_tells (suc a) b) [ inl (t, l) ↦ absurd (true≢false
 not_less : (a b : ℕ) → b ≤ a → nat_lt a b ≡ false
 not_less a b l = elim (leb_tells (suc a) b) [ inl (t, m) ↦ absurd (omega (arith, l, m)) | inr (f, m) ↦ f ]
 
-more_than : (a b : ℕ) → nat_le b a ≡ false → a < b
+pub more_than : (a b : ℕ) → nat_le b a ≡ false → a < b
 more_than a b e = elim (leb_tells b a) [ inl (t, l) ↦ absurd (true≢false (sym t ∙ e)) | inr (f, l) ↦ omega (arith, l) ]
 
 neither : {X : Type 0} (a b : Option X) → option_or a b ≡ None → (a ≡ None) × (b ≡ None)
@@ -98,7 +98,7 @@ none_in_below test (suc n) e i l =
       | inr (f, other) ↦ none_in_below test n both.0 i (omega (arith, l, other))
     ]
 
-less_true : (a b : ℕ) → a < b → nat_lt a b ≡ true
+pub less_true : (a b : ℕ) → a < b → nat_lt a b ≡ true
 less_true a b l = elim (leb_tells (suc a) b) [ inl (t, m) ↦ t | inr (f, m) ↦ absurd (omega (arith, l, m)) ]
 
 -- a hart that holds is in the row
@@ -129,14 +129,14 @@ module _ {S V : Type 0} (machine : Machine S V) (terms : Terms) (many pages : �
   Any c = Unit {0}
 
   same : (b : Board S) → Leads b b
-  same b = aside machine.flat many pages terms.limit Good faithful h b b refl refl refl
+  same b = aside machine.flat many pages terms.limit Good faithful h b b refl refl refl (λ g n. refl)
 
   choice : (P : Board S → Type 0) (b : Board S) (c : Bool) (x y : Way S) → (c ≡ true → To P b x) → (c ≡ false → To P b y) → To P b (if c then x else y)
   choice P b true x y f g = f refl
   choice P b false x y f g = g refl
 
   roomy : (P : Board S → Type 0) (b : Board S) (e : Entry) (step : Board S → Way S) → To P b (step b) → To P b (with_room machine terms e step b)
-  roomy P b e step comes = choice P b (has_room machine terms e b) (step b) (Ends Rest (closes _ b)) (λ _. comes) (λ _. (aside machine.flat many pages terms.limit Good faithful h b (closes _ b) refl refl refl, tt))
+  roomy P b e step comes = choice P b (has_room machine terms e b) (step b) (Ends Rest (closes _ b)) (λ _. comes) (λ _. (aside machine.flat many pages terms.limit Good faithful h b (closes _ b) refl refl refl (λ g n. refl), tt))
 
   once : (P : Board S → Type 0) (b : Board S) (o : Option (Board S)) → ((d : Board S) → o ≡ Some d → Leads b d × P d) → To P b (on o)
   once P b None f = tt
@@ -158,8 +158,8 @@ module _ {S V : Type 0} (machine : Machine S V) (terms : Terms) (many pages : �
 
   entry_made : (b d : Board S) (e : Entry) → Sound b → count_of e ≡ machine.flat.count b.at.flat h → is_end e ≡ false
       → ((t : Replay S) → made machine.flat b.at h (Makes e) ≡ Some t → verdict_on machine.flat b.at h (Makes e) ≡ CanGo)
-      → Allowed machine.flat pages terms.limit (recording_of b) h (Makes e) → IsWantedGain machine.flat b.at h (Makes e) → entered machine terms h e b ≡ Some d → EntryMade b d e
-  entry_made b d e sound stands no_end can allowed wanted_so is =
+      → Allowed machine.flat pages terms.limit (recording_of b) h (Makes e) → IsWantedGain machine.flat b.at h (Makes e) → IsMeant (wanted b) h (Makes e) → entered machine terms h e b ≡ Some d → EntryMade b d e
+  entry_made b d e sound stands no_end can allowed wanted_so meant is =
       let grown = slice_set b.streams h (stream b h ++ e ∷ []) in
       let a = mapped (λ (s : Replay S). record b { at = s; streams = grown }) (made machine.flat b.at h (Makes e)) d is in
       let l : h < length b.streams = (let z = sound.ordered.tidy.streams in omega (arith, z, inside)) in
@@ -174,6 +174,8 @@ module _ {S V : Type 0} (machine : Machine S V) (terms : Terms) (many pages : �
           journal = refl;
           orders = refl;
           size = ap (λ (xs : List Entry). length xs) grows ∙ length_push (stream b h) e;
+          others = λ g n. refl;
+          meant = (meant, tt);
         });
         state = a.0;
         made = a.1;
@@ -255,8 +257,8 @@ module _ {S V : Type 0} (machine : Machine S V) (terms : Terms) (many pages : �
       let c = record b { outside = left } in
       let e = poll_at machine terms h b (max time (machine.flat.time b.at.flat)) in
       once Polled b (entered machine terms h e c) (λ d is.
-      let x = entry_made c d e (record { ordered = sound.ordered; fits = sound.fits; orders_size = sound.orders_size }) refl refl (λ t e. poll_can b.at t (max time (machine.flat.time b.at.flat)) e) (due_is b due) tt is in (
-        both machine.flat many pages terms.limit Good faithful h b c d (aside machine.flat many pages terms.limit Good faithful h b c refl refl refl) x.went,
+      let x = entry_made c d e (record { ordered = sound.ordered; fits = sound.fits; orders_size = sound.orders_size }) refl refl (λ t e. poll_can b.at t (max time (machine.flat.time b.at.flat)) e) (due_is b due) tt tt is in (
+        both machine.flat many pages terms.limit Good faithful h b c d (aside machine.flat many pages terms.limit Good faithful h b c refl refl refl (λ g n. refl)) x.went,
         λ less here. subst (λ n. has_poll (stream d h) n ≡ true) (sym x.own) (subst (λ s. has_poll s (machine.flat.count b.at.flat h) ≡ true) (sym x.stream) (last_poll (stream b h) (machine.flat.count b.at.flat h) e refl refl)),
       ))
 
@@ -279,9 +281,9 @@ module _ {S V : Type 0} (machine : Machine S V) (terms : Terms) (many pages : �
   left_less (Some Read) Write e = omega arith
   left_less (Some Write) Write e = omega arith
 
-  yields_for_to : (g : ℕ) (b : Board S) (o : Option (ℕ × Mode)) → Sound b → Polled b → To Polled b (yields_for machine terms h g o b)
-  yields_for_to g b None sound polled = (same b, polled)
-  yields_for_to g b (Some n) sound polled =
+  yields_for_to : (g : ℕ) (b : Board S) (o : Option (ℕ × Mode)) → g ≢ h → wanted b g ≡ o → Sound b → Polled b → To Polled b (yields_for machine terms h g o b)
+  yields_for_to g b None other stored sound polled = (same b, polled)
+  yields_for_to g b (Some n) other stored sound polled =
       choice Polled b (yields_now machine terms h g n b) _ (On b)
       (λ now.
       let hit = first_of (conflict (held b.at.holders n.0 h) (Some n.1)) _ now in
@@ -289,7 +291,7 @@ module _ {S V : Type 0} (machine : Machine S V) (terms : Terms) (many pages : �
       let e = yield_of machine terms h n b in
       roomy Polled b e (λ c. on (entered machine terms h (yield_of machine terms h n c) c))
       (once Polled b (entered machine terms h e b) (λ d is.
-      let x = entry_made b d e sound refl refl (λ t z. can_go b.at e (number_is b n.0 sound l) refl) (polled, l, left_less (held b.at.holders n.0 h) n.1 hit) tt is in
+      let x = entry_made b d e sound refl refl (λ t z. can_go b.at e (number_is b n.0 sound l) refl) (polled, l, left_less (held b.at.holders n.0 h) n.1 hit) tt (record { hart = g; mode = n.1; other = other; stored = stored; leaves = refl }) is in
       (x.went, λ less. polled_on b d e x.stream x.own (polled (let z = x.own in omega (arith, z, less)))))))
       (λ _. (same b, polled))
     where
@@ -298,7 +300,8 @@ module _ {S V : Type 0} (machine : Machine S V) (terms : Terms) (many pages : �
       first_of false y e = e
 
   pub yields_to_to : (g : ℕ) (b : Board S) → Sound b → Polled b → To Polled b (yields_to machine terms h g b)
-  yields_to_to g b sound polled = choice Polled b (g == h) (On b) (yields_for machine terms h g (wanted b g) b) (λ _. (same b, polled)) (λ _. yields_for_to g b (wanted b g) sound polled)
+  yields_to_to g b sound polled = choice Polled b (g == h) (On b) (yields_for machine terms h g (wanted b g) b) (λ _. (same b, polled))
+      (λ f. yields_for_to g b (wanted b g) (λ e. true≢false (sym (eq-eqb g h e) ∙ f)) refl sound polled)
 
   all_yields : (gs : List ℕ) (b : Board S) → Sound b → Polled b → To Polled b (goes (map (yields_to machine terms h) gs) (On b))
   all_yields [] b sound polled = (same b, polled)
@@ -366,7 +369,7 @@ module _ {S V : Type 0} (machine : Machine S V) (terms : Terms) (many pages : �
       gain_to : kept_by b h n ≡ None → strength (held b.at.holders n.0 h) < strength (Some n.1) → (d : Board S) → entered machine terms h (gain_of machine terms h n b) b ≡ Some d → Leads b d × (Kept b d × (lacks d.at.holders h n ≡ false) × Below d)
       gain_to none more d is =
           let e = gain_of machine terms h n b in
-          let m = entry_made b d e sound refl refl (λ t z. can_go b.at e (number_is b n.0 sound l) refl) (low.0, low.1, l, more, no_clash b n sound none, waits_of_streams (log_of machine terms b) (log_so_far machine.flat pages terms.limit (recording_of b)) n.0 h (next_number b n.0) refl) (wants (less_true (strength (held b.at.holders n.0 h)) (strength (Some n.1)) more)) is in
+          let m = entry_made b d e sound refl refl (λ t z. can_go b.at e (number_is b n.0 sound l) refl) (low.0, low.1, l, more, no_clash b n sound none, waits_of_streams (log_of machine terms b) (log_so_far machine.flat pages terms.limit (recording_of b)) n.0 h (next_number b n.0) refl) (wants (less_true (strength (held b.at.holders n.0 h)) (strength (Some n.1)) more)) tt is in
           let t = same_Some _ _ m.made in
           let flat : d.at.flat ≡ b.at.flat = ap (λ (x : Replay S). x.flat) m.at ∙ sym (ap (λ (x : Replay S). x.flat) t) in
           let holders : d.at.holders ≡ with_held b.at.holders n.0 h (Some n.1) = ap (λ (x : Replay S). x.holders) m.at ∙ sym (ap (λ (x : Replay S). x.holders) t) in (
@@ -382,7 +385,7 @@ module _ {S V : Type 0} (machine : Machine S V) (terms : Terms) (many pages : �
       tries None none more =
           roomy (λ c. Kept b c × (lacks c.at.holders h n ≡ false) × Below c) b (gain_of machine terms h n b) (λ c. on (entered machine terms h (gain_of machine terms h n c) c))
           (once (λ c. Kept b c × (lacks c.at.holders h n ≡ false) × Below c) b (entered machine terms h (gain_of machine terms h n b) b) (gain_to none more))
-      tries (Some g) none more = (aside machine.flat many pages terms.limit Good faithful h b (with_want h (Some n) b) refl refl refl, tt)
+      tries (Some g) none more = (aside machine.flat many pages terms.limit Good faithful h b (with_want h (Some n) b) refl refl refl (λ k other. ap (λ o. unwrap_or o None) (set_there b.wants h k (Some n) other)), tt)
 
   -- what the next move needs: first what isn't lacking, and then the rest
   pub record Ahead (b : Board S) (done ns : List (ℕ × Mode)) : Type 0 where
@@ -429,9 +432,9 @@ module _ {S V : Type 0} (machine : Machine S V) (terms : Terms) (many pages : �
   behind_to : (b : Board S) → To Any b (behind_touch machine terms h b)
   behind_to b =
       choice Any b (machine.flat.is_stopped b.at.flat) (Ends Rest (closes _ b)) _
-      (λ _. (aside machine.flat many pages terms.limit Good faithful h b (closes _ b) refl refl refl, tt)) (λ _. favoured (h == b.favoured)) where
+      (λ _. (aside machine.flat many pages terms.limit Good faithful h b (closes _ b) refl refl refl (λ g n. refl), tt)) (λ _. favoured (h == b.favoured)) where
         favoured : (c : Bool) → To Any b (On (if c then passes_favour h b else b))
-        favoured true = (aside machine.flat many pages terms.limit Good faithful h b (passes_favour h b) refl refl refl, tt)
+        favoured true = (aside machine.flat many pages terms.limit Good faithful h b (passes_favour h b) refl refl refl (λ g n. refl), tt)
         favoured false = (same b, tt)
 
   touch_can : (s t : Replay S) (input : Input) → want machine.flat s h ≡ None → made machine.flat s h (Makes (entries.Touch (machine.flat.count s.flat h) s.cursor.ordinal input)) ≡ Some t
@@ -455,11 +458,11 @@ module _ {S V : Type 0} (machine : Machine S V) (terms : Terms) (many pages : �
       let c = record b { outside = left } in
       let input = recorded_input word store (machine.flat.time b.at.flat) now answer in
       touched_to b (entered machine terms h (touch_of machine terms h b input) c) (λ d is.
-      both machine.flat many pages terms.limit Good faithful h b c d (aside machine.flat many pages terms.limit Good faithful h b c refl refl refl)
-      (entry_made c d (touch_of machine terms h b input) (record { ordered = sound.ordered; fits = sound.fits; orders_size = sound.orders_size }) refl refl (λ t e. touch_can b.at t input none e) low tt is).went)
+      both machine.flat many pages terms.limit Good faithful h b c d (aside machine.flat many pages terms.limit Good faithful h b c refl refl refl (λ g n. refl))
+      (entry_made c d (touch_of machine terms h b input) (record { ordered = sound.ordered; fits = sound.fits; orders_size = sound.orders_size }) refl refl (λ t e. touch_can b.at t input none e) low tt tt is).went)
 
   touches_with_to : (word : DeviceWord) (store : Option ℕ) (b : Board S) (o : Option (Asked × Outside)) → Sound b → Below b → want machine.flat b.at h ≡ None → To Any b (touches_with machine terms h word store b o)
-  touches_with_to word store b None sound low none = (aside machine.flat many pages terms.limit Good faithful h b (closes _ b) refl refl refl, tt)
+  touches_with_to word store b None sound low none = (aside machine.flat many pages terms.limit Good faithful h b (closes _ b) refl refl refl (λ g n. refl), tt)
   touches_with_to word store b (Some (answer, left)) sound low none = touches_at_to word store answer b (clock_gives word store left) sound low none
 
   accesses_to : (b : Board S) (o : Option (DeviceWord × Option ℕ)) → Sound b → Below b → want machine.flat b.at h ≡ None → To Any b (accesses machine terms h o b)

@@ -119,7 +119,7 @@ module _ {S V : Type 0} (machine : Machine S V) (terms : Terms) (many : ℕ) (Go
       opens = λ b shut none running. none-some cause (sym none ∙ shut.0);
       rests = λ b never. absurd never;
       goes = λ b until never. absurd never;
-      holds = λ b n g low never. absurd never;
+      holds = λ b n g low wants never. absurd never;
       fills = λ b low never. absurd never;
       fills_for = λ b g n other is never. absurd never;
       fails = λ b low never. absurd never;

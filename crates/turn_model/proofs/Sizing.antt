@@ -70,7 +70,7 @@ module _ {S V : Type 0} (machine : Machine S V) (terms : Terms) (many pages : 鈩
       opens = 位 b within none running. within;
       rests = 位 b within. within;
       goes = 位 b until within. within;
-      holds = 位 b n g low within. within;
+      holds = 位 b n g low wants within. within;
       fills = 位 b low within. within;
       fills_for = 位 b g n other is within. within;
       fails = 位 b low within. within;

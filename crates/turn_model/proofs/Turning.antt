@@ -4,6 +4,7 @@ use Rattle.std.proofs.lemmas.Option.{none-some, same_Some}
 use Rattle.std.proofs.lemmas.Grind.{flat_map-append}
 use Rattle.std.proofs.lemmas.List.{length-append, map-append}
 use Rattle.std.proofs.lemmas.Bool.{ne_eqb}
+use Rattle.rv_words.specs.declared.shared.Mode.{Mode}
 use Rattle.replay_model.specs.State.{Replay, want}
 use Rattle.replay_model.specs.Items.{Item, Move, verdict_on, made, goes}
 use Rattle.replay_model.specs.Journal.{order_of}
@@ -19,13 +20,13 @@ use Rattle.crew_recording.proofs.Ordered.{IsOrdered, ordered_item}
 use Rattle.crew_recording.proofs.Behind.{ordered_all}
 use Rattle.crew_recording.proofs.Together.{Made, made_after, SameOf, others_same}
 use Rattle.turn_model.specs.Machine.{Machine}
-use Rattle.turn_model.specs.Board.{Board, Order, Go, Hold, Rest, Terms, last_order}
+use Rattle.turn_model.specs.Board.{Board, Order, Go, Hold, Rest, Terms, last_order, wanted}
 use Rattle.turn_model.specs.Entering.{Way, On, Ends, Nowhere}
 use Rattle.turn_model.specs.Entering as ways
 use Rattle.turn_model.specs.Steps.{runs, commits, steps, rests_where_closed, polls, yields, rests_at_limit, gains, touches, goes_on}
 use Rattle.turn_model.specs.Turn.{turn, ended_by, items_made, with_row, with_rows, with_order}
 use Rattle.turn_model.specs.Faithful.{IsFaithful}
-use Rattle.turn_model.proofs.Ways.{recording_of, by_one, IsSound, OrderIs, further}
+use Rattle.turn_model.proofs.Ways.{recording_of, by_one, IsSound, OrderIs, AreMeant, all_meant, meant_then, further}
 use Rattle.turn_model.proofs.Walking.{Walks, Keeps, steps_walk}
 use Rattle.turn_model.proofs.Leaving.{can_and_does, Committed, committed}
 use Rattle.turn_model.proofs.Making.{Any, Polled, Below, To, rests_where_closed_to, polls_to, yields_come, rests_at_limit_to, below_limit, gains_to, touches_to, goes_on_to}
@@ -40,6 +41,10 @@ order_more h (suc m) rows =
 of_one : (h : ℕ) (items : List Item) → map (λ (x : ℕ × Item). x.0) (by_one h items) ≡ replicate (length items) h
 of_one h [] = refl
 of_one h (item ∷ items) = ap (λ zs. h ∷ zs) (of_one h items)
+
+moves_meant : (wants : ℕ → Option (ℕ × Mode)) (h n : ℕ) → AreMeant wants h (replicate n Move)
+moves_meant wants h zero = tt
+moves_meant wants h (suc n) = (tt, moves_meant wants h n)
 
 module _ {S V : Type 0} (machine : Machine S V) (terms : Terms) (many pages : ℕ) (Good : S → Type 0) (faithful : IsFaithful machine.flat many pages Good) where
   abbrev pub Sound : Board S → Type 0
@@ -65,6 +70,12 @@ module _ {S V : Type 0} (machine : Machine S V) (terms : Terms) (many pages : �
     pub made : MadeBy (recording_of b) items (recording_of c)
     pub order : order_of c.journal ≡ order_of b.journal ++ map (λ (x : ℕ × Item). x.0) items
     pub orders_size : length c.orders ≡ length b.orders
+
+  -- they are all of one hart, and its Yields are for harts that have stored a want
+  pub record IsOf (h : ℕ) (b : Board S) (items : List (ℕ × Item)) : Type 0 where
+    pub own : List Item
+    pub are : items ≡ by_one h own
+    pub meant : AreMeant (wanted b) h own
 
   pub stays : (b c : Board S) → recording_of b ≡ recording_of c → c.journal ≡ b.journal → c.orders ≡ b.orders → Goes b c
   stays b c same journal orders = record { items = []; made = (same, tt, tt); order = ap order_of journal ∙ sym (append-nil (order_of b.journal)); orders_size = ap (λ (xs : List (Option Order)). length xs) orders }
@@ -151,7 +162,7 @@ module _ {S V : Type 0} (machine : Machine S V) (terms : Terms) (many pages : �
     sound_committed : (n : ℕ) (b c : Board S) → Sound b → CanMove h n (recording_of b) → CommittedB n b c → Sound c
     sound_committed n b c sound can x = sound_made b c (by_one h (replicate n Move)) sound (moves_made n b c sound can x) (ap (λ (xs : List (Option Order)). length xs) x.orders)
 
-    ended_goes : (n : ℕ) (b c d : Board S) (way : Way S) → Sound b → Orders b → CanMove h n (recording_of b) → CommittedB n b c → T A c way → ended_by h n b way ≡ Some d → Goes b d × Orders d
+    ended_goes : (n : ℕ) (b c d : Board S) (way : Way S) → Sound b → Orders b → CanMove h n (recording_of b) → CommittedB n b c → T A c way → ended_by h n b way ≡ Some d → (goes : Goes b d) × Orders d × IsOf h b goes.items
     ended_goes n b c d (On e) sound orders can x comes is = absurd (none-some _ is)
     ended_goes n b c d Nowhere sound orders can x comes is = absurd (none-some _ is)
     ended_goes n b c d (Ends order e) sound orders can x comes is =
@@ -165,7 +176,7 @@ module _ {S V : Type 0} (machine : Machine S V) (terms : Terms) (many pages : �
         (made_after machine.flat pages terms.limit (recording_of b) (recording_of c) (recording_of e) (by_one h (replicate n Move)) (by_one h comes.0.items) (moves_made n b c sound can x) comes.0.made) in
         let same_orders : e.orders ≡ b.orders = comes.0.orders ∙ x.orders in
         let orders_long : length e.orders ≡ many = ap (λ (xs : List (Option Order)). length xs) same_orders ∙ sound.orders_size in
-        subst (λ (z : Board S). Goes b z × Orders z) (same_Some _ _ is) (
+        subst (λ (z : Board S). (goes : Goes b z) × Orders z × IsOf h b goes.items) (same_Some _ _ is) (
           record {
             items = by_one h items;
             made = all;
@@ -173,8 +184,16 @@ module _ {S V : Type 0} (machine : Machine S V) (terms : Terms) (many pages : �
             orders_size = set_size e.orders h (Some order) ∙ ap (λ (xs : List (Option Order)). length xs) same_orders;
           },
           λ g less other last. told g less other last items all same_orders orders_long (eqb_tells g h),
+          record {
+            own = items;
+            are = refl;
+            meant = meant_then (wanted b) h (replicate n Move) comes.0.items (moves_meant (wanted b) h n) (all_meant (wanted b) (wanted c) h comes.0.items kept comes.0.meant);
+          },
         )
       where
+        kept : (g : ℕ) → g ≢ h → wanted c g ≡ wanted b g
+        kept g other = ap (λ (ws : List (Option (ℕ × Mode))). unwrap_or (slice_get ws g) None) x.wants ∙ ap (λ o. unwrap_or o None) (set_there b.wants h g None other)
+
         told : (g : ℕ) → g < many → (other : Order) → unwrap_or (slice_get (slice_set e.orders h (Some order)) g) None ≡ Some other → (items : List Item) → MadeBy (recording_of b) (by_one h items) (recording_of e) → e.orders ≡ b.orders → length e.orders ≡ many
             → (((g == h) ≡ true) × (g ≡ h)) ⊎ (((g == h) ≡ false) × (g ≢ h)) → Promised g e other
         told g less other last items all same_orders long (inl (t, is_h)) =
@@ -185,7 +204,7 @@ module _ {S V : Type 0} (machine : Machine S V) (terms : Terms) (many pages : �
             let before : last_order b g ≡ Some other = ap (λ (xs : List (Option Order)). unwrap_or (slice_get xs g) None) (sym same_orders) ∙ sym (ap (λ o. unwrap_or o None) (set_there e.orders h g (Some order) n)) ∙ last in
             order_kept g b e other (others_same machine.flat many Good faithful.steady faithful.timed pages terms.limit (recording_of b) (recording_of e) h g items n sound.ordered all) (orders g less other before)
 
-    pub turn_goes : (n : ℕ) (b d : Board S) → Sound b → Orders b → CanMove h n (recording_of b) → turn machine terms h n b ≡ Some d → Goes b d × Orders d
+    pub turn_goes : (n : ℕ) (b d : Board S) → Sound b → Orders b → CanMove h n (recording_of b) → turn machine terms h n b ≡ Some d → (goes : Goes b d) × Orders d × IsOf h b goes.items
     turn_goes n b d sound orders can is =
         let c = bound_to (λ c. ended_by h n b (ways.goes (steps machine terms h) (On c))) (commits machine terms h n b) d is in
         let x = committed machine terms many pages Good faithful h n b c.0 c.1 in

@@ -8,6 +8,8 @@ use Rattle.rv_words.specs.declared.shared.DeviceWord.{DeviceWord}
 use Rattle.log_entry.specs.declared.log.Entry.{Entry}
 use Rattle.outside.specs.declared.console.Asked.{Asked}
 use Rattle.device_board.specs.Recording.{recorded_input}
+use Rattle.log_entry.specs.Parts.{strength}
+use Rattle.replay_model.specs.Holders.{held}
 use Rattle.replay_model.specs.State.{want}
 use Rattle.turn_model.specs.Machine.{Machine}
 use Rattle.turn_model.specs.Board.{Board, Order, Go, Hold, Rest, Outside, Terms, harts, wanted, closes}
@@ -16,7 +18,7 @@ use Rattle.turn_model.specs.Entering.{Way, On, Ends, Nowhere, goes, on, has_room
 use Rattle.turn_model.specs.Steps.{with_want, passes_favour, console_gives, clock_gives, clock_answers, steps, rests_where_closed, rests_at_limit, is_due, poll_at, polls_with, polls, yield_of, yields_now, yields_for, yields_to, yields, gain_of, gains_unless, gains_page, gains, touch_of, behind_touch, touched, touches_at, touches_with, accesses, touches, goes_on}
 use Rattle.turn_model.specs.Faithful.{IsFaithful, AllBelow}
 use Rattle.turn_model.proofs.Ways.{sound_after}
-use Rattle.turn_model.proofs.Making.{Sound, To, Any, Polled, Below, Kept, Ahead, ahead_first, ahead_wants, ahead_on, lacks, due_is, rests_where_closed_to, rests_at_limit_to, below_limit, polls_to, yields_to_to, yields_come, gains_page_to, gains_to, touches_to}
+use Rattle.turn_model.proofs.Making.{Sound, To, Any, Polled, Below, Kept, Ahead, ahead_first, ahead_wants, ahead_on, less_true, more_than, lacks, due_is, rests_where_closed_to, rests_at_limit_to, below_limit, polls_to, yields_to_to, yields_come, gains_page_to, gains_to, touches_to}
 
 -- while a turn goes on this holds, and where it ended that
 abbrev pub Walks : {S : Type 0} → (Board S → Type 0) → (Order → Board S → Type 0) → Way S → Type 0
@@ -60,7 +62,7 @@ module _ {S V : Type 0} (machine : Machine S V) (terms : Terms) (many pages : �
     pub opens : (b : Board S) → Before b → b.closed ≡ None → machine.flat.is_stopped b.at.flat ≡ false → During b
     pub rests : (b : Board S) → During b → After Rest b
     pub goes : (b : Board S) (until : ℕ) → During b → After (Go until) b
-    pub holds : (b : Board S) (n : ℕ × Mode) (g : ℕ) → HasLeft b → During b → After (Hold n.0 g) (with_want h (Some n) b)
+    pub holds : (b : Board S) (n : ℕ × Mode) (g : ℕ) → HasLeft b → want machine.flat b.at h ≡ Some n → During b → After (Hold n.0 g) (with_want h (Some n) b)
     pub fills : (b : Board S) → HasLeft b → During b → After Rest (closes causes.Full b)
     pub fills_for : (b : Board S) (g : ℕ) (n : ℕ × Mode) → g ≢ h → wanted b g ≡ Some n → During b → After Rest (closes causes.Full b)
     pub fails : (b : Board S) → HasLeft b → During b → After Rest (closes causes.Fault b)
@@ -137,21 +139,22 @@ module _ {S V : Type 0} (machine : Machine S V) (terms : Terms) (many pages : �
         further PolledB During During After b (map (yields_to machine terms h) gs) (yields_to machine terms h g b) sound
         (yields_to_to machine terms many pages Good faithful h inside g b sound polled) (yields_to_walks g b sound during) (λ c s p d. all_yields gs c s p d)
 
-    gains_unless_walks : (o : Option ℕ) (n : ℕ × Mode) (b : Board S) → SoundB b → HasLeft b → During b → W (gains_unless machine terms o h n b)
-    gains_unless_walks None n b sound low during =
+    gains_unless_walks : (o : Option ℕ) (n : ℕ × Mode) (b : Board S) → SoundB b → HasLeft b → want machine.flat b.at h ≡ Some n → During b → W (gains_unless machine terms o h n b)
+    gains_unless_walks None n b sound low wants during =
         roomy (gain_of machine terms h n b) (λ c. on (entered machine terms h (gain_of machine terms h n c) c)) b
         (λ room. once (entered machine terms h (gain_of machine terms h n b) b) (λ d made. keeps.gains b d n sound during room made)) (keeps.fills b low during)
-    gains_unless_walks (Some g) n b sound low during = keeps.holds b n g low during
+    gains_unless_walks (Some g) n b sound low wants during = keeps.holds b n g low wants during
 
-    gains_page_walks : (n : ℕ × Mode) (b : Board S) → SoundB b → HasLeft b → During b → W (gains_page machine terms h n b)
-    gains_page_walks n b sound low during =
-        choice (holds_so b h n) (On b) (gains_unless machine terms (kept_by b h n) h n b) (λ _. during) (λ _. gains_unless_walks (kept_by b h n) n b sound low during)
+    gains_page_walks : (n : ℕ × Mode) (b : Board S) → SoundB b → HasLeft b → (lacks b.at.holders h n ≡ true → want machine.flat b.at h ≡ Some n) → During b → W (gains_page machine terms h n b)
+    gains_page_walks n b sound low wants during =
+        choice (holds_so b h n) (On b) (gains_unless machine terms (kept_by b h n) h n b) (λ _. during)
+        (λ f. gains_unless_walks (kept_by b h n) n b sound low (wants (less_true _ _ (more_than (strength (held b.at.holders n.0 h)) (strength (Some n.1)) f))) during)
 
     all_gains : (done ns : List (ℕ × Mode)) (b : Board S) → SoundB b → BelowB b → AllBelow pages ns → Ahead machine terms many pages Good faithful h inside b done ns → During b → W (goes (map (gains_page machine terms h) ns) (On b))
     all_gains done [] b sound low below ahead during = during
     all_gains done (n ∷ ns) b sound low below ahead during =
         further (λ c. Kept machine terms many pages Good faithful h inside b c × (lacks c.at.holders h n ≡ false) × BelowB c) During During After b (map (gains_page machine terms h) ns) (gains_page machine terms h n b) sound
-        (gains_page_to machine terms many pages Good faithful h inside n b sound low below.0 (ahead_wants machine terms many pages Good faithful h inside b done n ns ahead)) (gains_page_walks n b sound low.0 during) (λ c s p d. all_gains (done ++ n ∷ []) ns c s p.2 below.1 (ahead_on machine terms many pages Good faithful h inside b c done n ns ahead p.0 p.1) d)
+        (gains_page_to machine terms many pages Good faithful h inside n b sound low below.0 (ahead_wants machine terms many pages Good faithful h inside b done n ns ahead)) (gains_page_walks n b sound low.0 (ahead_wants machine terms many pages Good faithful h inside b done n ns ahead) during) (λ c s p d. all_gains (done ++ n ∷ []) ns c s p.2 below.1 (ahead_on machine terms many pages Good faithful h inside b c done n ns ahead p.0 p.1) d)
 
     behind_walks : (d : Board S) → (machine.flat.is_stopped d.at.flat ≡ true → After Rest (closes causes.Stop d)) × (machine.flat.is_stopped d.at.flat ≡ false → During d) → W (behind_touch machine terms h d)
     behind_walks d both = choice (machine.flat.is_stopped d.at.flat) (Ends Rest (closes causes.Stop d)) _ both.0 (λ f. favoured (h == d.favoured) (both.1 f)) where
