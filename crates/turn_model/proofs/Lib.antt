@@ -8,6 +8,7 @@ pub mod Closing
 pub mod Sizing
 pub mod Ordering
 pub mod Agreeing
+pub mod Leaning
 pub mod Reaching
 pub mod Ending
 pub mod Listing

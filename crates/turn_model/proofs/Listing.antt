@@ -131,7 +131,7 @@ module _ {S V : Type 0} (machine : Machine S V) (terms : Terms) (many : ℕ) (Go
         let both = neither (is_some b.closed) (list_all (is_at_limit machine terms b) (harts b)) short in
         let none = nothing_in b.closed both.0 in
         let cut_board = closes Cut b in
-        let reached' = reached_aside machine terms many Good faithful first outside good unmoved b cut_board reached refl refl refl refl (λ g l order e. reached.orders g l order e) in
+        let reached' = reached_aside machine terms many Good faithful first outside good unmoved b cut_board reached refl refl refl refl refl (λ g l order e. reached.orders g l order e) in
         let p = cut_turns b.at (harts b) cut_board c of (reached', ap (λ o. Some (unwrap_or o Cut)) none, refl) is in
         let size = (reached_sound machine terms many Good faithful first outside good unmoved b reached).ordered.tidy.streams in (
           p.0,

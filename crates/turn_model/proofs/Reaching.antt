@@ -12,7 +12,7 @@ use Rattle.order_rules.specs.Orderly.{IsOrderly}
 use Rattle.replay_model.specs.Holders.{nobody}
 use Rattle.replay_model.specs.State.{Replay, start}
 use Rattle.replay_model.specs.Items.{Item, Move, goes, verdict_on, IsFullOrder, step}
-use Rattle.replay_model.specs.Journal.{order_of, IsWantedGain, Throughout}
+use Rattle.replay_model.specs.Journal.{order_of, IsWantedGain, IsLean, IsLeanItem, Throughout}
 use Rattle.replay_model.specs.Inputs.{Agree, console_input}
 use Rattle.replay_model.specs.Outcome.{Done, cause_agrees, outcome_at, least_diverged, diverged, Diverged}
 use Rattle.crew_recording.specs.Recording.{Recording, Records, first_recording}
@@ -36,6 +36,7 @@ use Rattle.turn_model.proofs.Turning.{Sound, Orders, CanMove, Goes, stays, then_
 use Rattle.turn_model.proofs.Sizing.{IsWithin, within_begin, within_alike, within_keeps}
 use Rattle.turn_model.proofs.Agreeing.{IsAnswered, answered_alike, answered_begin, answered_commit, answered_keeps}
 use Rattle.turn_model.proofs.Ordering.{by_ordinal_is}
+use Rattle.turn_model.proofs.Leaning.{WantsStay, IsLeanTo, recorded_so, lean_alike, lean_turn}
 use Rattle.turn_model.proofs.Closing.{MakesNone, IsClosing, Before, During, After, closing_keeps, commit_keeps}
 
 abbrev no_streams : ℕ → List (List Entry)
@@ -156,12 +157,19 @@ module _ {S V : Type 0} (machine : Machine S V) (terms : Terms) (many : ℕ) (Go
     abbrev Answered : Board S → Type 0
     Answered b = IsAnswered machine terms many terms.pages Good faithful outside b
 
+    abbrev pub Stay : Type 0
+    Stay = WantsStay machine terms many Good faithful first
+
+    abbrev LeanTo : Board S → Type 0
+    LeanTo b = IsLeanTo machine terms many Good faithful first b
+
     -- turns led there from the start
     pub record IsReached (b : Board S) : Type 0 where
       pub goes : GoesTo begin b
       pub orders : AsOrdered b
       pub within : Within b
       pub answered : Answered b
+      pub lean : Stay → LeanTo b
 
     pub reached_sound : (b : Board S) → IsReached b → SoundBoard b
     reached_sound b reached = sound_goes machine terms many terms.pages Good faithful begin b begin_sound reached.goes
@@ -172,16 +180,18 @@ module _ {S V : Type 0} (machine : Machine S V) (terms : Terms) (many : ℕ) (Go
       orders = λ g l order e. absurd (none-some _ (sym (none_of many g) ∙ e));
       within = within_begin machine terms many terms.pages Good faithful first outside;
       answered = answered_begin machine terms many terms.pages Good faithful outside first quiet early;
+      lean = λ stay. record { items = []; leans = sym begins; order = refl; stored = λ g n is. absurd (none-some _ (sym (none_of many g) ∙ is)) };
     }
 
     -- what is changed beside the replay state, the streams, the journal and the orders
-    pub reached_aside : (b c : Board S) → IsReached b → recording_of b ≡ recording_of c → c.journal ≡ b.journal → c.orders ≡ b.orders → c.outside ≡ b.outside → AsOrdered c → IsReached c
-    reached_aside b c reached same journal orders left ordered = record {
+    pub reached_aside : (b c : Board S) → IsReached b → recording_of b ≡ recording_of c → c.journal ≡ b.journal → c.orders ≡ b.orders → c.outside ≡ b.outside → c.wants ≡ b.wants → AsOrdered c → IsReached c
+    reached_aside b c reached same journal orders left wants ordered = record {
       goes = then_goes machine terms many terms.pages Good faithful begin b c reached.goes (stays machine terms many terms.pages Good faithful b c same journal orders);
       orders = ordered;
       within = within_alike machine terms many terms.pages Good faithful b c (sym (ap (λ (r : Recording S). r.streams) same)) reached.within;
       answered = answered_alike machine terms many terms.pages Good faithful outside b c left (ap (λ (r : Recording S). r.streams) (sym same)) (ap (λ (r : Recording S). r.at.cursor.ordinal) (sym same)) (ap (λ (r : Recording S). machine.flat.sent r.at.flat) (sym same))
           (ap (λ (r : Recording S). machine.flat.time r.at.flat) (sym same)) reached.answered;
+      lean = λ stay. lean_alike machine terms many Good faithful first b c same journal wants (reached.lean stay);
     }
 
     pub reached_turn : AccessesSend machine → (h n : ℕ) (b d : Board S) → h < many → IsReached b → MovesOf h n b → turn machine terms h n b ≡ Some d → IsReached d
@@ -195,6 +205,7 @@ module _ {S V : Type 0} (machine : Machine S V) (terms : Terms) (many : ℕ) (Go
           answered = turn_keeps machine terms many terms.pages Good faithful h inside Answered Answered (λ order c. Answered c) Answered (answered_keeps machine terms many terms.pages Good faithful outside h inside sends) n b d (reached_sound b reached) can is
               (λ c x. answered_commit machine terms many terms.pages Good faithful outside h n b c (reached_sound b reached).ordered.tidy.good x reached.answered)
               (λ c order one. answered_alike machine terms many terms.pages Good faithful outside c (with_rows h n (items_made h n b c) b (with_order h order c)) refl refl refl refl refl one);
+          lean = λ stay. lean_turn machine terms many Good faithful first stay h inside n b d reached.goes.items (reached_sound b reached) (subst (λ (r : Recording S). Made machine.flat terms.pages terms.limit r reached.goes.items (recording_of b)) begins reached.goes.made) can is one.0 one.2 (reached.lean stay);
         }
 
     pub closing_turn : (h n : ℕ) (b d : Board S) → h < many → IsReached b → MovesOf h n b → (MakesNone (last_order b h) → n ≡ 0) → turn machine terms h n b ≡ Some d → Closes b → Closes d
@@ -239,6 +250,18 @@ module _ {S V : Type 0} (machine : Machine S V) (terms : Terms) (many : ℕ) (Go
         let t = throughout machine.flat many Good faithful.steady terms.pages terms.limit terms.image log.cause (IsWantedGain machine.flat) (recording_of begin) (recording_of d) goes.items goes.made.0 begin_sound.ordered.tidy goes.made.2 in
         let alike : length (no_streams many) ≡ length (ended_streams machine terms d) = replicate_size many [] ∙ sym (log_size_is d ∙ (reached_sound d reached).ordered.tidy.streams) in
         subst (Throughout machine.flat log (IsWantedGain machine.flat) (start log first)) (sym goes.order) (subst (λ n. Throughout machine.flat log (IsWantedGain machine.flat) (from n).at (map (λ (x : ℕ × Item). x.0) goes.items)) alike t)
+
+    -- where wants stay, its journal is lean
+    pub reached_lean : Stay → (d : Board S) → IsReached d → IsLean machine.flat (log_of machine terms d) (start (log_of machine terms d) first) (order_of d.journal)
+    reached_lean stay d reached =
+        let lean = reached.lean stay in
+        let log = log_of machine terms d in
+        let r = first_recording terms.pages many first in
+        let tidy = (first_ordered machine.flat many Good faithful.steady faithful.timed terms.pages terms.limit first good unmoved).tidy in
+        let each = recorded_so machine terms many Good faithful first log refl r (recording_of d) lean.items lean.leans in
+        let t = throughout machine.flat many Good faithful.steady terms.pages terms.limit terms.image log.cause (IsLeanItem machine.flat log) r (recording_of d) lean.items each.0 tidy each.1 in
+        let alike : many ≡ length (ended_streams machine terms d) = sym (log_size_is d ∙ (reached_sound d reached).ordered.tidy.streams) in
+        subst (Throughout machine.flat log (IsLeanItem machine.flat log) (start log first)) (sym lean.order) (subst (λ n. Throughout machine.flat log (IsLeanItem machine.flat log) (from n).at (map (λ (x : ℕ × Item). x.0) lean.items)) alike t)
 
     pub reached_done : (d : Board S) → IsReached d → cause_agrees machine.flat (log_of machine terms d) d.at.flat ≡ true → outcome_at machine.flat (log_of machine terms d) d.at ≡ Some (Done d.at.flat)
     reached_done d reached agrees =

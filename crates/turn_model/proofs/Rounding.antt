@@ -66,7 +66,7 @@ module _ {S V : Type 0} (machine : Machine S V) (terms : Terms) (many : ℕ) (Go
 
   favoured_comes : (r : ℕ) (b : Board S) → Comes b → Comes (with_favoured r b)
   favoured_comes r b p = (
-    reached_aside machine terms many Good faithful first outside good unmoved b (with_favoured r b) p.0 refl refl refl refl (λ g l order e. p.0.orders g l order e),
+    reached_aside machine terms many Good faithful first outside good unmoved b (with_favoured r b) p.0 refl refl refl refl refl (λ g l order e. p.0.orders g l order e),
     record { wants = p.1.wants; closed = p.1.closed },
   )
 
