@@ -38,14 +38,14 @@ use Rattle.rv_hart.specs.declared.effect.Wrote.TheVariants as wrote
 use Rattle.rv_csr.specs.Registers.{csr_read, is_read_only}
 use Rattle.device_board.specs.Accesses.{touched, word_touched, loaded, timed, stored}
 use Rattle.log_entry.specs.Size.{frame_size}
-use Rattle.elf_image.specs.Image.{Image}
+use Rattle.elf_image.specs.Image.{Image, IsWhole}
 use Rattle.flat_machine.specs.State.{FlatState, flat_at_start}
 use Rattle.flat_machine.specs.Moves.{fetched, fetched_by, next_move, access_of, lost_by, writes_in}
 use Rattle.flat_machine.specs.Acts.{next, ran, accessed, touch_made, poll_made, lost}
 use Rattle.flat_machine.specs.declared.act.Act.{Act}
 use Rattle.flat_machine.specs.declared.act.Act.TheVariants.{Run, Touch, Poll, Lose}
 use Rattle.replay_model.specs.Board.{board, hart_access, next_access, unit}
-use Rattle.replay_model.specs.Journal.{order_of}
+use Rattle.replay_model.specs.Journal.{order_of, IsLean}
 use Rattle.replay_model.proofs.Driving.{mapped, orders_drive}
 use Rattle.crew_recording.specs.Laws as crew
 use Rattle.crew_recording.specs.Recording.{IsSteady}
@@ -56,12 +56,14 @@ use Rattle.crew_recording.proofs.Obeying.{map_size}
 use Rattle.crew_recording.proofs.Steady.{replicate_size, no_place, within, bound_to, chosen, unless, leaves, board_steady}
 use Rattle.replay_model.specs.State.{start}
 use Rattle.replay_model.specs.Outcome.{cause_agrees}
-use Rattle.turn_model.specs.Board.{Board, Outside, Terms, log_of}
-use Rattle.turn_model.specs.Lists.{Recorded, comes_to}
+use Rattle.turn_model.specs.Board.{Board, Outside, Terms, board_at_start, log_of}
+use Rattle.turn_model.specs.Lists.{Recorded, comes_to, recorded_by_list}
+use Rattle.turn_model.specs.Rounds.{IsRecordedInRounds}
 use Rattle.turn_model.specs.Machine.{board_machine}
 use Rattle.turn_model.specs.Faithful.{IsFaithful, AllBelow, AccessesSend, is_access, time_in}
-use Rattle.turn_model.specs.Laws.{IsBoard, IsRight, RecordingsAreRight, RoundsAreRight}
-use Rattle.turn_model.proofs.Reaching.{IsReached, reached_sound, log_size_is, reached_orderly, reached_full, reached_gains, reached_done, reached_agrees}
+use Rattle.turn_model.specs.Laws.{IsBoard, IsRight, OfHarts, RecordingsAreLean, RecordingsAreRight, RoundsAreLean, RoundsAreRight}
+use Rattle.turn_model.proofs.BoardWants.{board_wants_stay}
+use Rattle.turn_model.proofs.Reaching.{IsReached, reached_sound, log_size_is, reached_orderly, reached_full, reached_gains, reached_lean, reached_done, reached_agrees}
 use Rattle.turn_model.proofs.Listing.{recorded}
 use Rattle.turn_model.proofs.Rounding.{recorded_in_rounds}
 
@@ -454,15 +456,33 @@ module _ (terms : Terms) (image : Image) (harts : ℕ) (outside : Outside) (page
         acts = orders_drive log (start log first) d.at (order_of d.journal) (full.0, full.1, full.2.leads);
       }
 
-  right_where_reached : (r : Recorded FlatState) → (d : Board FlatState) × ReachedB d × (cause_agrees board (log_of board_machine terms d) d.at.flat ≡ true) × (comes_to board_machine terms d ≡ r) → IsRight terms outside (flat_at_start image harts) r
+  -- a board that turns reached, at whose end the cause agrees, comes to a recording
+  abbrev ComesTo : Recorded FlatState → Type 0
+  ComesTo r = (d : Board FlatState) × ReachedB d × (cause_agrees board (log_of board_machine terms d) d.at.flat ≡ true) × (comes_to board_machine terms d ≡ r)
+
+  list_comes : (list : List (ℕ × ℕ)) (r : Recorded FlatState) → OfHarts harts list → recorded_by_list board_machine terms list (board_at_start terms harts (flat_at_start image harts) outside) ≡ Some r → ComesTo r
+  list_comes list r of is = recorded board_machine terms harts (IsBoard harts terms.pages) (board_faithful harts terms.pages) (flat_at_start image harts) outside (start_with terms image harts pages) (no_place harts) board_sends (refl, refl, refl) list r of is
+
+  rounds_come : (r : Recorded FlatState) → IsRecordedInRounds board_machine terms (board_at_start terms harts (flat_at_start image harts) outside) r → ComesTo r
+  rounds_come r is = recorded_in_rounds board_machine terms harts (IsBoard harts terms.pages) (board_faithful harts terms.pages) (flat_at_start image harts) outside (start_with terms image harts pages) (no_place harts) board_sends (refl, refl, refl) r is
+
+  right_where_reached : (r : Recorded FlatState) → ComesTo r → IsRight terms outside (flat_at_start image harts) r
   right_where_reached r reached = subst (IsRight terms outside (flat_at_start image harts)) reached.3 (all_right reached.0 reached.1 reached.2)
 
+  lean_where_reached : IsWhole image → (r : Recorded FlatState) → ComesTo r → IsLean board r.log (start r.log (flat_at_start image harts)) (order_of r.journal)
+  lean_where_reached whole r reached =
+      let stay = board_wants_stay terms image harts (board_faithful harts terms.pages) pages (start_with terms image harts pages) whole in
+      subst (λ (x : Recorded FlatState). IsLean board x.log (start x.log (flat_at_start image harts)) (order_of x.journal)) reached.3
+      (reached_lean board_machine terms harts (IsBoard harts terms.pages) (board_faithful harts terms.pages) (flat_at_start image harts) outside (start_with terms image harts pages) (no_place harts) stay reached.0 reached.1)
+
 pub recordings_are_right : RecordingsAreRight
-recordings_are_right terms image harts outside list r pages of is =
-    right_where_reached terms image harts outside pages r
-    (recorded board_machine terms harts (IsBoard harts terms.pages) (board_faithful harts terms.pages) (flat_at_start image harts) outside (start_with terms image harts pages) (no_place harts) board_sends (refl, refl, refl) list r of is)
+recordings_are_right terms image harts outside list r pages of is = right_where_reached terms image harts outside pages r (list_comes terms image harts outside pages list r of is)
 
 pub rounds_are_right : RoundsAreRight
-rounds_are_right terms image harts outside r pages is =
-    right_where_reached terms image harts outside pages r
-    (recorded_in_rounds board_machine terms harts (IsBoard harts terms.pages) (board_faithful harts terms.pages) (flat_at_start image harts) outside (start_with terms image harts pages) (no_place harts) board_sends (refl, refl, refl) r is)
+rounds_are_right terms image harts outside r pages is = right_where_reached terms image harts outside pages r (rounds_come terms image harts outside pages r is)
+
+pub recordings_are_lean : RecordingsAreLean
+recordings_are_lean terms image harts outside list r whole pages of is = lean_where_reached terms image harts outside pages whole r (list_comes terms image harts outside pages list r of is)
+
+pub rounds_are_lean : RoundsAreLean
+rounds_are_lean terms image harts outside r whole pages is = lean_where_reached terms image harts outside pages whole r (rounds_come terms image harts outside pages r is)

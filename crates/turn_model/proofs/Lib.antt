@@ -13,4 +13,5 @@ pub mod Reaching
 pub mod Ending
 pub mod Listing
 pub mod Rounding
+pub mod BoardWants
 pub mod BoardFacts

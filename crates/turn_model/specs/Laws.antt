@@ -4,7 +4,7 @@ use Rattle.rv_hart.specs.State.{Hart}
 use Rattle.outside.specs.declared.console.Asked.{Asked}
 use Rattle.log_entry.specs.Parts.{unit_of}
 use Rattle.log_entry.specs.Size.{frame_size, size_of_log}
-use Rattle.elf_image.specs.Image.{Image}
+use Rattle.elf_image.specs.Image.{Image, IsWhole}
 use Rattle.flat_machine.specs.State.{FlatState, flat_at_start}
 use Rattle.flat_machine.specs.Runs.{run_from}
 use Rattle.order_rules.specs.Orderly.{IsOrderly}
@@ -12,7 +12,7 @@ use Rattle.replay_model.specs.Board.{board}
 use Rattle.replay_model.specs.State.{Replay, start}
 use Rattle.replay_model.specs.Items.{IsFullOrder}
 use Rattle.replay_model.specs.Acts.{acts_of}
-use Rattle.replay_model.specs.Journal.{order_of, IsWantedGain, Throughout}
+use Rattle.replay_model.specs.Journal.{order_of, IsWantedGain, IsLean, Throughout}
 use Rattle.replay_model.specs.Inputs.{Agree}
 use Rattle.replay_model.specs.Outcome.{Done, outcome_at}
 use Rattle.turn_model.specs.Machine.{board_machine}
@@ -68,3 +68,14 @@ abbrev pub RoundsAreRight : Type 0
 RoundsAreRight = (terms : Terms) (image : Image) (harts : ℕ) (outside : Outside) (r : Recorded FlatState)
     → terms.pages ≡ image.pages → IsRecordedInRounds board_machine terms (board_at_start terms harts (flat_at_start image harts) outside) r
     → IsRight terms outside (flat_at_start image harts) r
+
+-- where the image is whole, the journal of every recording is lean: also each Yield along it is of a page that another hart wants
+abbrev pub RecordingsAreLean : Type 0
+RecordingsAreLean = (terms : Terms) (image : Image) (harts : ℕ) (outside : Outside) (list : List (ℕ × ℕ)) (r : Recorded FlatState)
+    → IsWhole image → terms.pages ≡ image.pages → OfHarts harts list → recorded_by_list board_machine terms list (board_at_start terms harts (flat_at_start image harts) outside) ≡ Some r
+    → IsLean board r.log (start r.log (flat_at_start image harts)) (order_of r.journal)
+
+abbrev pub RoundsAreLean : Type 0
+RoundsAreLean = (terms : Terms) (image : Image) (harts : ℕ) (outside : Outside) (r : Recorded FlatState)
+    → IsWhole image → terms.pages ≡ image.pages → IsRecordedInRounds board_machine terms (board_at_start terms harts (flat_at_start image harts) outside) r
+    → IsLean board r.log (start r.log (flat_at_start image harts)) (order_of r.journal)
