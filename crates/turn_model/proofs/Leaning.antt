@@ -46,9 +46,6 @@ stored_is (w ∷ wants) zero n m is = same_Some _ _ is
 stored_is (w ∷ wants) (suc h) n m is = stored_is wants h n m is
 
 module _ {S V : Type 0} (machine : Machine S V) (terms : Terms) (many : ℕ) (Good : S → Type 0) (faithful : IsFaithful machine.flat many terms.pages Good) (first : S) where
-  abbrev From : Recording S
-  From = first_recording terms.pages many first
-
   abbrev MadeBy : Recording S → List (ℕ × Item) → Recording S → Type 0
   MadeBy r items s = Made machine.flat terms.pages terms.limit r items s
 
@@ -58,7 +55,7 @@ module _ {S V : Type 0} (machine : Machine S V) (terms : Terms) (many : ℕ) (Go
       → want machine.flat r.at h ≡ Some n → want machine.flat m.at h ≡ Some n
 
   -- a hart below the limit that wants a page in a mode
-  abbrev pub Wanting : Replay S → ℕ → ℕ × Mode → Type 0
+  abbrev Wanting : Replay S → ℕ → ℕ × Mode → Type 0
   Wanting s g n = (machine.flat.count s.flat g < terms.limit) × (want machine.flat s g ≡ Some n)
 
   abbrev OthersWant : (ℕ → Option (ℕ × Mode)) → ℕ → Replay S → Type 0
@@ -68,7 +65,7 @@ module _ {S V : Type 0} (machine : Machine S V) (terms : Terms) (many : ℕ) (Go
   abbrev LeanSo : Replay S → ℕ → Item → Type 0
   LeanSo s h item = (log : Log) → log.limit ≡ terms.limit → IsLeanItem machine.flat log s h item
 
-  abbrev pub Leans : Recording S → List (ℕ × Item) → Recording S → Type 0
+  abbrev Leans : Recording S → List (ℕ × Item) → Recording S → Type 0
   Leans r [] s = r ≡ s
   Leans r (x ∷ items) s = (m : Recording S) × IsRecorded machine.flat r x.0 x.1 m × LeanSo r.at x.0 x.1 × Leans m items s
 
@@ -127,7 +124,7 @@ module _ {S V : Type 0} (machine : Machine S V) (terms : Terms) (many : ℕ) (Go
     abbrev OwnNone : Board S → Type 0
     OwnNone b = (wanted b h ≡ None) × OthersKept b
 
-    abbrev pub OwnWants : Board S → Type 0
+    abbrev OwnWants : Board S → Type 0
     OwnWants b = ((n : ℕ × Mode) → wanted b h ≡ Some n → Wanting b.at h n) × OthersKept b
 
     none_wants : (b : Board S) → OwnNone b → OwnWants b
@@ -158,7 +155,7 @@ module _ {S V : Type 0} (machine : Machine S V) (terms : Terms) (many : ℕ) (Go
           (λ _. none_wants d x, λ _. x);
     }
 
-  pub turn_wants : (h : ℕ) (inside : h < many) (n : ℕ) (b d : Board S) → IsSound machine.flat many terms.pages terms.limit Good faithful b → CanMove machine terms many terms.pages Good faithful h n (recording_of b) → turn machine terms h n b ≡ Some d → OwnWants h inside (wanted b) d
+  turn_wants : (h : ℕ) (inside : h < many) (n : ℕ) (b d : Board S) → IsSound machine.flat many terms.pages terms.limit Good faithful b → CanMove machine terms many terms.pages Good faithful h n (recording_of b) → turn machine terms h n b ≡ Some d → OwnWants h inside (wanted b) d
   turn_wants h inside n b d sound can is =
       turn_keeps machine terms many terms.pages Good faithful h inside (OwnNone h inside (wanted b)) (OwnNone h inside (wanted b)) (λ order c. OwnWants h inside (wanted b) c) (OwnWants h inside (wanted b)) (wants_keep h inside (wanted b)) n b d sound can is
       (λ c x. committed c x.wants) (λ c order own. own)
