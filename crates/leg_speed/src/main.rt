@@ -3,8 +3,7 @@
 //! 4,000,000,000 moves.
 #![tactic(auto)]
 
-ghost use Rattle.std.specs.Prelude.{◌≡◌, ◌≤◌, ◌^◌, length};
-ghost use Rattle.hart_run.specs.Run.{ahead_of, IsAtDevice};
+ghost use Rattle.std.specs.Prelude.{◌≤◌};
 
 use elf_image::{Image, read_image};
 use guest_pages::PageStore;
@@ -37,7 +36,10 @@ fn start(alloc: Global, image: &Image) -> Result<HartRun, NoMemory> {
 }
 
 /// The next device access, made; true where it stops the run.
-fn touch(run: &mut HartRun) -> bool {
+fn touch(run: &mut HartRun) -> bool
+    requires { run.old.count ≤ 4000000000 }
+    ensures { run.new.count ≤ 4000000000 }
+{
     match run.ahead() {
         Ahead::AtDevice(access) => {
             if run.count() < MOST_MOVES {

@@ -4,6 +4,9 @@
 
 mod making;
 
+ghost use Rattle.std.specs.Prelude.{◌≡◌, IfOk};
+ghost use Rattle.log_format.specs.Grammar.{spelling};
+
 use anyhow::{Context, Result, anyhow, ensure};
 use log_entry::Log;
 use log_format::{in_range, read_log, write_log};
@@ -14,7 +17,9 @@ use std::env;
 use std::rt::Runtime;
 
 /// The bytes of a log.
-fn spell(alloc: Global, log: &Log) -> Result<Vec<u8>> {
+fn spell(alloc: Global, log: &Log) -> Result<Vec<u8>>
+    ensures { IfOk result (λ bytes. bytes.items ≡ spelling log.now) }
+{
     ensure!(in_range(log), "the log is not in range");
     write_log(alloc, log).map_err(|_| anyhow!("memory ran out"))
 }

@@ -1,4 +1,7 @@
 //! A log as long as one likes.
+ghost use Rattle.std.specs.Prelude.{◌≡◌, ◌++◌, ◌∷◌, [], IfOk};
+ghost use Rattle.log_entry.specs.declared.log.Entry.TheVariants.{Poll, End};
+
 use log_entry::{Cause, Entries, Entry, Log, Mode, Streams, WaitFor, Waits};
 use std::alloc::{AllocError, Global};
 
@@ -37,7 +40,10 @@ fn add_turn(
     Ok(())
 }
 
-fn begin(alloc: Global, ord: u32) -> Result<Vec<Entry>, AllocError> {
+/// The entries of a hart before its first turn.
+fn begin(alloc: Global, ord: u32) -> Result<Vec<Entry>, AllocError>
+    ensures { IfOk result (λ entries. entries.items ≡ Poll 0 ord 0 0 ∷ []) }
+{
     let mut entries = Vec::new(alloc);
     entries.push(Entry::Poll {
         count: 0,
@@ -48,7 +54,10 @@ fn begin(alloc: Global, ord: u32) -> Result<Vec<Entry>, AllocError> {
     Ok(entries)
 }
 
-fn end(mut entries: Vec<Entry>) -> Result<Entries, AllocError> {
+/// The stream of a hart that ends at count 4,096.
+fn end(mut entries: Vec<Entry>) -> Result<Entries, AllocError>
+    ensures { IfOk result (λ stream. stream ≡ entries.items ++ End 4096 ∷ []) }
+{
     entries.push(Entry::End { count: 4096 })?;
     Ok(Entries::of(entries))
 }
