@@ -21,11 +21,11 @@ use Rattle.order_rules.specs.Orderly.{Keeps, o5, o6, o7}
 use Rattle.order_rules.proofs.Numbers.{numbers_name}
 use Rattle.order_rules.proofs.Takings.{numbers_by, met_by, taken_is}
 use Rattle.replay_model.specs.Flat.{Flat}
-use Rattle.replay_model.specs.Holders.{with_held}
+use Rattle.order_rules.specs.Holders.{with_held}
 use Rattle.replay_model.specs.State.{Replay}
 use Rattle.replay_model.specs.Items.{Item, Ended, Move, Makes}
-use Rattle.replay_model.specs.Laws.{Follow}
-use Rattle.replay_model.proofs.Follow.{still_follow, index_is}
+use Rattle.order_rules.specs.Laws.{Follow}
+use Rattle.order_rules.proofs.Follow.{still_follow, index_is}
 use Rattle.replay_model.proofs.Driving.{mapped}
 use Rattle.flat_machine.specs.declared.act.Act.TheVariants.{Run}
 use Rattle.solo_recording.proofs.Prefix.{at_end, none_pass}

@@ -9,7 +9,7 @@ use Rattle.order_rules.specs.Cursor.{Cursor, counted}
 use Rattle.flat_machine.specs.declared.act.Act.{Act}
 use Rattle.flat_machine.specs.declared.act.Act.TheVariants.{Run, Touch, Poll, Lose}
 use Rattle.replay_model.specs.Flat.{Flat}
-use Rattle.replay_model.specs.Holders.{Holders, row, with_held}
+use Rattle.order_rules.specs.Holders.{Holders, row, with_held}
 use Rattle.replay_model.specs.State.{Replay}
 use Rattle.replay_model.specs.Items.{Item, Ended, Move, Makes, acted, effect, past, holds, ends_reservation, made}
 use Rattle.replay_model.proofs.Driving.{mapped}

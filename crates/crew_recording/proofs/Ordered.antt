@@ -16,7 +16,7 @@ use Rattle.order_rules.proofs.Takings.{numbers_by, ordinal_by, met_by, guard_is,
 use Rattle.flat_machine.specs.declared.act.Act.{Act}
 use Rattle.flat_machine.specs.declared.act.Act.TheVariants.{Run, Touch, Poll, Lose}
 use Rattle.replay_model.specs.Flat.{Flat}
-use Rattle.replay_model.specs.Holders.{Holders, with_held}
+use Rattle.order_rules.specs.Holders.{Holders, with_held}
 use Rattle.replay_model.specs.State.{Replay}
 use Rattle.replay_model.specs.Items.{Item, Ended, Move, Makes, acted, effect, past, holds, ends_reservation}
 use Rattle.replay_model.proofs.Driving.{mapped}

@@ -20,7 +20,7 @@ use Rattle.flat_machine.specs.Acts.{next, ran, accessed, touch_made, poll_made, 
 use Rattle.flat_machine.specs.declared.act.Act.{Act}
 use Rattle.flat_machine.specs.declared.act.Act.TheVariants.{Run, Touch, Poll, Lose}
 use Rattle.replay_model.specs.Board.{board}
-use Rattle.replay_model.specs.Holders.{row, held, nobody}
+use Rattle.order_rules.specs.Holders.{row, held, nobody}
 use Rattle.replay_model.specs.Items.{Item}
 use Rattle.replay_model.proofs.Driving.{mapped}
 use Rattle.solo_recording.proofs.BoardClock.{touch_on}

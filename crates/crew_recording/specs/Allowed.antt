@@ -11,7 +11,7 @@ use Rattle.order_rules.specs.Rules.{has_poll, waits_due}
 use Rattle.flat_machine.specs.declared.act.Act.{Act}
 use Rattle.flat_machine.specs.declared.act.Act.TheVariants.{Run, Touch, Poll, Lose}
 use Rattle.replay_model.specs.Flat.{Flat}
-use Rattle.replay_model.specs.Holders.{held}
+use Rattle.order_rules.specs.Holders.{held}
 use Rattle.replay_model.specs.Items.{Item, Ended, Move, Makes}
 use Rattle.crew_recording.specs.Recording.{Recording, stream_in, Records, log_of_recording}
 

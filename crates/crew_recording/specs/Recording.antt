@@ -10,7 +10,7 @@ use Rattle.log_entry.specs.Parts.{count_of, is_end}
 use Rattle.flat_machine.specs.declared.act.Act.{Act}
 use Rattle.flat_machine.specs.declared.act.Act.TheVariants.{Run}
 use Rattle.replay_model.specs.Flat.{Flat}
-use Rattle.replay_model.specs.Holders.{nobody}
+use Rattle.order_rules.specs.Holders.{nobody}
 use Rattle.replay_model.specs.State.{Replay}
 use Rattle.replay_model.specs.Items.{Item, Ended, Move, Makes, CanGo, verdict_on, made}
 

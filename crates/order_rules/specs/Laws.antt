@@ -1,10 +1,11 @@
 -- What the reports of logs have in common.
-use Rattle.std.specs.Prelude.{ℕ, ◌≡◌, ◌≢◌, ◌+◌, ◌<◌, ◌⊎◌, Bool, true, false, List, find, length, slice_get, Some, None}
+use Rattle.std.specs.Prelude.{ℕ, ◌≡◌, ◌≢◌, ◌+◌, ◌<◌, ◌⊎◌, Bool, true, false, List, find, length, slice_get, slice_index, slice_set, Some, None}
 use Rattle.log_entry.specs.declared.log.Entry.{Entry}
 use Rattle.log_entry.specs.declared.log.Log.{Log}
 use Rattle.order_rules.specs.Orderly.{Spot, spots, Keeps, o5, o6, o8, LeastOrderLeaves, IsOrderly, IsLeastBreak}
-use Rattle.log_entry.specs.Parts.{page_number, conflict}
-use Rattle.order_rules.specs.Rules.{held}
+use Rattle.log_entry.specs.Parts.{page_number, holds_then, conflict}
+use Rattle.order_rules.specs.Rules as rules
+use Rattle.order_rules.specs.Holders.{Holders, row, held, with_held, IsCrew}
 use Rattle.orders_law.specs.Orders.{IsFull}
 use Rattle.order_rules.specs.Places.{entry_at, numbered}
 use Rattle.order_rules.specs.Cursor.{Cursor, start, take_one, least_left}
@@ -39,8 +40,22 @@ NumbersName = (log : Log) (h i page k : ℕ) (e : Entry) → Keeps log o5 → en
 
 -- before each number of a page no two harts hold it in conflict, in a log that keeps O6
 abbrev pub CrewBefore : Type 0
-CrewBefore = (log : Log) (page k g h : ℕ) → Keeps log o6 → g ≢ h → conflict (held log page g k) (held log page h k) ≡ false
+CrewBefore = (log : Log) (page k g h : ℕ) → Keeps log o6 → g ≢ h → conflict (rules.held log page g k) (rules.held log page h k) ≡ false
 
 -- where some order takes all entries of a log with right numbers and ordinals, the least order does
 abbrev pub LeastTakesAll : Type 0
 LeastTakesAll = (log : Log) (xs : List (ℕ × ℕ)) (c : Cursor) → Keeps log o5 → Keeps log o8 → IsFull (take_one log) (start log) xs c → least_left log c ≡ None → LeastOrderLeaves log None
+
+-- each hart holds of each page what it holds in the log before the page's next number
+abbrev pub Follow : Log → Holders → List ℕ → Type 0
+Follow log holders numbers = (page h : ℕ) → held holders page h ≡ rules.held log page h (slice_index numbers page)
+
+-- where a hart takes the entry of a page with the page's next number, the holders still follow
+abbrev pub StillFollow : Type 0
+StillFollow = (log : Log) (holders : Holders) (numbers : List ℕ) (h i page k : ℕ) (e : Entry) → Keeps log o5 → entry_at log h i ≡ Some e → page_number e ≡ Some (page, k)
+    → slice_get numbers page ≡ Some k → page < length holders → h < length (row holders page)
+    → Follow log holders numbers → Follow log (with_held holders page h (holds_then e)) (slice_set numbers page (k + 1))
+
+-- and they are CREW, in a log that keeps O6
+abbrev pub FollowIsCrew : Type 0
+FollowIsCrew = (log : Log) (holders : Holders) (numbers : List ℕ) → Keeps log o6 → Follow log holders numbers → IsCrew holders

@@ -3,7 +3,7 @@
 #![tactic(auto)]
 
 ghost use Rattle.order_rules.specs.Worked.{AreJudged};
-ghost use Rattle.order_rules.specs.Laws.{ReportsAreOne, FirstIsLeast, NumbersName, CrewBefore, LeastTakesAll};
+ghost use Rattle.order_rules.specs.Laws.{ReportsAreOne, FirstIsLeast, NumbersName, CrewBefore, LeastTakesAll, StillFollow, FollowIsCrew};
 
 /// The rules judge logs that were worked out by hand as they should.
 pub fn worked_logs()
@@ -33,4 +33,10 @@ pub fn crew_before()
 /// Where some order takes all entries, the least order does.
 pub fn least_takes_all()
     ensures { LeastTakesAll }
+{}
+
+/// A table of holders that is what a log's entries so far leave stays so as further entries are taken.
+pub fn holders_follow()
+    ensures follow { StillFollow }
+    ensures crew { FollowIsCrew }
 {}

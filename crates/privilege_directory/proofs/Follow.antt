@@ -10,7 +10,7 @@ use Rattle.log_entry.specs.declared.log.Log.{Log}
 use Rattle.order_rules.specs.Places.{numbered}
 use Rattle.order_rules.specs.Rules.{waits_due, waits_after}
 use Rattle.order_rules.proofs.Numbers.{numbers_name}
-use Rattle.replay_model.proofs.Follow.{index_is}
+use Rattle.order_rules.proofs.Follow.{index_is}
 use Rattle.privilege_directory.specs.Directory.{by_others}
 use Rattle.privilege_directory.specs.Laws.{yields_after, WaitsFollow, WaitsBegin, WaitsStillFollow}
 use Rattle.privilege_directory.proofs.Holds.{others_and_one, others_and_own}

@@ -12,7 +12,7 @@ use Rattle.rv_words.specs.declared.shared.Mode.{Mode}
 use Rattle.rv_words.specs.declared.shared.TheConstants.{MAX_HARTS}
 use Rattle.log_entry.specs.declared.waits.WaitFor.{WaitFor}
 use Rattle.log_entry.specs.Parts.{strength, conflict}
-use Rattle.replay_model.specs.Holders.{Holders, row, held, with_held, IsCrew}
+use Rattle.order_rules.specs.Holders.{Holders, row, held, with_held, IsCrew}
 use Rattle.privilege_directory.specs.Directory.{Directory, IsSound, AreFew, clash_of, may_gain, yields_of, gained, yielded, weight, directory_at_start}
 use Rattle.privilege_directory.proofs.Found.{none_passes}
 use Rattle.privilege_directory.proofs.Holds.{hold, NoneAgainst, conflict_turned, less_conflict, few_yielded, few_gained, weight-set}

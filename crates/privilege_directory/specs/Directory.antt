@@ -5,7 +5,7 @@ use Rattle.rv_words.specs.declared.shared.Mode.{Mode}
 use Rattle.rv_words.specs.declared.shared.TheConstants.{MAX_HARTS}
 use Rattle.log_entry.specs.declared.waits.WaitFor.{WaitFor}
 use Rattle.log_entry.specs.Parts.{strength, conflict}
-use Rattle.replay_model.specs.Holders.{Holders, nobody, held, with_held, row, IsCrew}
+use Rattle.order_rules.specs.Holders.{Holders, nobody, held, with_held, row, IsCrew}
 
 -- `numbers` has the next number of each page, `yields` the Yields of each page since its latest Gain, in the order of their
 -- numbers, and `wants` what each hart has asked for

@@ -2,7 +2,7 @@
 
 ghost use Rattle.std.specs.Prelude.{◌≡◌, ◌+◌, ◌-◌, ◌<◌, ◌≤◌, ◌^◌, [], length, nat_lt, slice_get, slice_index, slice_set, unwrap_or, None, Some, IsTrue, IfOk, replicate};
 ghost use Rattle.log_entry.specs.Parts.{strength};
-ghost use Rattle.replay_model.specs.Holders.{held, row, IsCrew};
+ghost use Rattle.order_rules.specs.Holders.{held, row, IsCrew};
 ghost use Rattle.privilege_directory.specs.Directory.{directory_at_start, clash_of, may_gain, by_others, yields_of, gained, yielded};
 
 use crate::row::{Row, is_less};

@@ -17,7 +17,7 @@ use Rattle.log_entry.specs.Parts.{strength}
 use Rattle.log_entry.specs.Waits.{WaitList}
 use Rattle.order_rules.specs.Places.{is_number}
 use Rattle.replay_model.specs.Board.{board, next_access}
-use Rattle.replay_model.specs.Holders.{held, with_held}
+use Rattle.order_rules.specs.Holders.{held, with_held}
 use Rattle.replay_model.specs.State.{want}
 use Rattle.replay_model.specs.Items.{Move, Makes, CanGo, Holds, judged, past}
 use Rattle.solo_recording.specs.Recording.{IsPolled, NoneAt, IsRecorded}

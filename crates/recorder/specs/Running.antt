@@ -19,7 +19,7 @@ use Rattle.orders_law.specs.Orders.{below}
 use Rattle.order_rules.specs.Rules.{has_poll}
 use Rattle.replay_model.specs.Board.{board}
 use Rattle.replay_model.specs.Items.{Item}
-use Rattle.replay_model.specs.Holders.{Holders}
+use Rattle.order_rules.specs.Holders.{Holders}
 use Rattle.solo_recording.specs.Recording.{Recording, Records}
 use Rattle.recorder.specs.LoneRun.{LoneRun}
 

@@ -18,7 +18,7 @@ use Rattle.flat_machine.specs.State.{FlatState}
 use Rattle.flat_machine.specs.Moves.{move_of, next_move, word_round, loaded_for}
 use Rattle.log_entry.specs.Parts.{conflict}
 use Rattle.replay_model.specs.Board.{board, unit}
-use Rattle.replay_model.specs.Holders.{held}
+use Rattle.order_rules.specs.Holders.{held}
 use Rattle.replay_model.specs.State.{Replay, want}
 use Rattle.hart_run.specs.Run.{Run, hold_of, lacks, word_of, move_held, data_ahead, asked_of, ahead_of}
 use Rattle.hart_run.specs.Agreement.{Agrees}

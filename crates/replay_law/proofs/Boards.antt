@@ -20,7 +20,7 @@ use Rattle.flat_machine.specs.declared.act.Act.{Act}
 use Rattle.flat_machine.specs.declared.act.Act.TheVariants as act
 use Rattle.log_entry.specs.Parts.{conflict}
 use Rattle.replay_model.specs.Board.{board, unit, hart_access}
-use Rattle.replay_model.specs.Holders.{held}
+use Rattle.order_rules.specs.Holders.{held}
 use Rattle.replay_model.specs.State.{Replay, want}
 use Rattle.replay_model.proofs.Driving.{mapped}
 use Rattle.hart_run.specs.Run.{Run, IsOneRun}

@@ -12,7 +12,7 @@ use Rattle.order_rules.specs.Cursor.{guard_is_met}
 use Rattle.flat_machine.specs.declared.act.Act.{Act}
 use Rattle.flat_machine.specs.declared.act.Act.TheVariants.{Lose}
 use Rattle.replay_model.specs.Flat.{Flat}
-use Rattle.replay_model.specs.Holders.{held}
+use Rattle.order_rules.specs.Holders.{held}
 use Rattle.replay_model.specs.State.{Replay, want}
 use Rattle.replay_model.specs.Items.{Item, Ended, Move, Makes, Verdict, Holds, CanGo, HasDiverged, judged, tests, verdict_on}
 use Rattle.hart_run.proofs.Lists.{find_same}

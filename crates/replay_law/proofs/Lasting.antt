@@ -21,11 +21,11 @@ use Rattle.order_rules.proofs.Numbers.{in_stream, below_length, neither_holds}
 use Rattle.flat_machine.specs.declared.act.Act.{Act}
 use Rattle.flat_machine.specs.declared.act.Act.TheVariants.{Lose}
 use Rattle.replay_model.specs.Flat.{Flat}
-use Rattle.replay_model.specs.Holders.{row, held, with_held, IsCrew}
+use Rattle.order_rules.specs.Holders.{row, held, with_held, IsCrew}
 use Rattle.replay_model.specs.State.{Replay}
 use Rattle.replay_model.specs.Items.{Item, Ended, Move, Makes, CanGo, verdict_on, ends_reservation, step}
-use Rattle.replay_model.specs.Laws.{Follow}
-use Rattle.replay_model.proofs.Follow.{still_follow, follow_is_crew, held_here, held_elsewhere}
+use Rattle.order_rules.specs.Laws.{Follow}
+use Rattle.order_rules.proofs.Follow.{still_follow, follow_is_crew, held_here, held_elsewhere}
 use Rattle.hart_run.proofs.Lists.{within, index_is}
 use Rattle.replay_law.proofs.Local.{IsSound, IsLocal}
 use Rattle.replay_law.proofs.Went.{IsMade, act_of, flat_after, built, step_went}

@@ -4,7 +4,7 @@ use Rattle.rv_words.specs.declared.shared.Input.{Input}
 use Rattle.flat_machine.specs.declared.act.Act.{Act}
 use Rattle.flat_machine.specs.declared.act.Act.TheVariants.{Run, Touch, Poll, Lose}
 use Rattle.replay_model.specs.Flat.{Flat}
-use Rattle.replay_model.specs.Holders.{row}
+use Rattle.order_rules.specs.Holders.{row}
 use Rattle.replay_model.specs.State.{Replay, want, IsCrewState}
 
 abbrev pub actor : Act → ℕ

@@ -20,10 +20,10 @@ use Rattle.orders_law.proofs.Confluence.{orders_agree}
 use Rattle.order_rules.specs.Cursor.{first_left}
 use Rattle.order_rules.specs.Rules as rules
 use Rattle.replay_model.specs.Board.{board, unit}
-use Rattle.replay_model.specs.Holders.{held, nobody}
+use Rattle.order_rules.specs.Holders.{held, nobody}
 use Rattle.replay_model.specs.State.{Replay}
 use Rattle.replay_model.specs.Items.{Move, Verdict, HasEnded, Holds, CanGo, HasDiverged, item_at, told_of, step, goes, made, verdict_on, next_item}
-use Rattle.replay_model.proofs.Follow.{follow_is_crew}
+use Rattle.order_rules.proofs.Follow.{follow_is_crew}
 use Rattle.hart_run.proofs.Begun.{row_of_nobody, held_of_nobody}
 use Rattle.replay_law.specs.Laws.{IsReplayable, first_flat, first_replay, ItemsCommute, EqualSharesAgree, AllOrdersAgree, LeastEndsThere, OrdersTellOutcome}
 use Rattle.replay_law.proofs.Views.{Fits}

@@ -2,7 +2,7 @@
 use Rattle.std.proofs.Common.{◌≡◌, ◌≢◌, ℕ, zero, suc, List, [], ◌∷◌, length, Option, Some, None, slice_set, unwrap_or, refl, ap}
 use Rattle.std.proofs.lemmas.List.{length-set}
 use Rattle.rv_words.specs.declared.shared.Mode.{Mode}
-use Rattle.replay_model.specs.Holders.{Holders, row, held, with_held}
+use Rattle.order_rules.specs.Holders.{Holders, row, held, with_held}
 use Rattle.hart_run.proofs.Lists.{set_there}
 use Rattle.replay_law.proofs.Went.{holders_by}
 

@@ -10,7 +10,7 @@ use Rattle.rv_hart.specs.State.{Hart}
 use Rattle.flat_machine.specs.State.{FlatState, OnBoard, FitsTogether}
 use Rattle.guest_pages.specs.Pages.{page_of, paged, bytes_of}
 use Rattle.replay_model.specs.Board.{board, unit}
-use Rattle.replay_model.specs.Holders.{Holders, held}
+use Rattle.order_rules.specs.Holders.{Holders, held}
 use Rattle.replay_model.specs.State.{Replay}
 use Rattle.hart_run.specs.Run.{Run, hold_of, IsOneRun}
 use Rattle.hart_run.specs.Agreement.{Agrees}

@@ -11,7 +11,7 @@ use Rattle.order_rules.specs.Cursor.{first_left, guard_is_met, taken}
 use Rattle.replay_model.specs.Flat.{Flat}
 use Rattle.flat_machine.specs.declared.act.Act.{Act}
 use Rattle.flat_machine.specs.declared.act.Act.TheVariants.{Run, Touch, Poll, Lose}
-use Rattle.replay_model.specs.Holders.{held, with_held}
+use Rattle.order_rules.specs.Holders.{held, with_held}
 use Rattle.replay_model.specs.State.{Replay, want}
 
 pub data Item : Type 0 where

@@ -1,6 +1,5 @@
 pub mod Flat
 pub mod Board
-pub mod Holders
 pub mod State
 pub mod Items
 pub mod Acts

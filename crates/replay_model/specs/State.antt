@@ -7,7 +7,7 @@ use Rattle.log_entry.specs.Parts.{strength, units_of}
 use Rattle.order_rules.specs.Cursor as cursor
 use Rattle.order_rules.specs.Cursor.{Cursor}
 use Rattle.replay_model.specs.Flat.{Flat}
-use Rattle.replay_model.specs.Holders.{Holders, nobody, held, IsCrew}
+use Rattle.order_rules.specs.Holders.{Holders, nobody, held, IsCrew}
 
 pub record Replay (S : Type 0) : Type 0 where
   pub flat : S

@@ -16,7 +16,7 @@ use Rattle.order_rules.specs.Places.{is_number}
 use Rattle.order_rules.specs.Cursor.{guard_is_met, taken}
 use Rattle.replay_model.specs.Flat.{Flat}
 use Rattle.flat_machine.specs.declared.act.Act.TheVariants.{Run, Touch, Poll}
-use Rattle.replay_model.specs.Holders.{row, with_held}
+use Rattle.order_rules.specs.Holders.{row, with_held}
 use Rattle.replay_model.specs.State.{Replay}
 use Rattle.replay_model.specs.Items.{Item, Ended, Move, Makes, acted, past}
 use Rattle.solo_recording.specs.Recording.{Recording, IsClocked, IsPolled, NoneAt, IsRecorded}

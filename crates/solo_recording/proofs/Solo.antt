@@ -8,11 +8,11 @@ use Rattle.order_rules.specs.Orderly.{IsOrderly}
 use Rattle.order_rules.specs.Rules as rules
 use Rattle.replay_model.specs.Flat.{Flat}
 use Rattle.flat_machine.specs.declared.act.Act.TheVariants.{Run}
-use Rattle.replay_model.specs.Holders.{nobody, held}
+use Rattle.order_rules.specs.Holders.{nobody, held}
 use Rattle.replay_model.specs.State.{start}
 use Rattle.replay_model.specs.Items.{Item, step}
 use Rattle.replay_model.specs.Items as replay
-use Rattle.replay_model.specs.Laws.{Follow}
+use Rattle.order_rules.specs.Laws.{Follow}
 use Rattle.solo_recording.specs.Recording.{Recording, IsClocked, Records, solo_log, first_recording}
 use Rattle.solo_recording.proofs.Prefix.{each_push}
 use Rattle.solo_recording.proofs.Fits.{Fits}

@@ -19,11 +19,11 @@ use Rattle.order_rules.specs.Rules as rules
 use Rattle.order_rules.specs.Rules.{breaks_o6}
 use Rattle.replay_model.specs.Flat.{Flat}
 use Rattle.flat_machine.specs.declared.act.Act.TheVariants.{Run, Touch, Poll}
-use Rattle.replay_model.specs.Holders.{held}
+use Rattle.order_rules.specs.Holders.{held}
 use Rattle.replay_model.specs.State.{Replay, want}
 use Rattle.replay_model.specs.Items.{Item, Ended, Move, Makes, acted, past}
-use Rattle.replay_model.specs.Laws.{Follow}
-use Rattle.replay_model.proofs.Follow.{still_follow, index_is}
+use Rattle.order_rules.specs.Laws.{Follow}
+use Rattle.order_rules.proofs.Follow.{still_follow, index_is}
 use Rattle.solo_recording.specs.Recording.{Recording, IsClocked, IsRecorded, Records}
 use Rattle.solo_recording.proofs.Prefix.{at_snoc, at_end}
 use Rattle.solo_recording.proofs.Tidy.{IsTidy, met}

@@ -8,7 +8,7 @@ use Rattle.order_rules.specs.Places.{is_number}
 use Rattle.order_rules.specs.Cursor.{Cursor}
 use Rattle.order_rules.specs.Rules.{has_poll}
 use Rattle.replay_model.specs.Flat.{Flat}
-use Rattle.replay_model.specs.Holders.{Holders, row}
+use Rattle.order_rules.specs.Holders.{Holders, row}
 use Rattle.replay_model.specs.Items.{Verdict, CanGo, Holds}
 use Rattle.solo_recording.specs.Recording.{Recording, IsPolled}
 use Rattle.solo_recording.proofs.Prefix.{EachAfter, each_push, at_snoc, one_passes}

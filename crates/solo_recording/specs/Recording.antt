@@ -11,7 +11,7 @@ use Rattle.rv_words.specs.declared.shared.Input.TheVariants.{Time}
 use Rattle.replay_model.specs.Flat.{Flat}
 use Rattle.flat_machine.specs.declared.act.Act.{Act}
 use Rattle.flat_machine.specs.declared.act.Act.TheVariants.{Run, Touch, Poll}
-use Rattle.replay_model.specs.Holders.{nobody}
+use Rattle.order_rules.specs.Holders.{nobody}
 use Rattle.replay_model.specs.State.{Replay, want}
 use Rattle.replay_model.specs.Items.{Item, Ended, Move, Makes, CanGo, verdict_on, made}
 

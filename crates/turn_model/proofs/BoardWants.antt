@@ -24,7 +24,7 @@ use Rattle.hart_run.specs.declared.run.Ahead.{Ahead}
 use Rattle.hart_run.specs.declared.run.Ahead.TheVariants.{Free, Wants, AtDevice}
 use Rattle.hart_run.proofs.Agreed.{ahead_agrees}
 use Rattle.replay_model.specs.Board.{board, unit, hart_access}
-use Rattle.replay_model.specs.Holders.{held, nobody}
+use Rattle.order_rules.specs.Holders.{held, nobody}
 use Rattle.replay_model.specs.State.{Replay, want}
 use Rattle.replay_model.specs.Items.{Item, CanGo, verdict_on, step}
 use Rattle.crew_recording.specs.Recording.{first_recording, log_of_recording}

@@ -10,7 +10,7 @@ use Rattle.log_entry.specs.declared.log.Entry.TheVariants as entries
 use Rattle.log_entry.specs.declared.log.Log.{Log}
 use Rattle.log_entry.specs.Parts.{strength, conflict}
 use Rattle.device_board.specs.Recording.{recorded_input}
-use Rattle.replay_model.specs.Holders.{held}
+use Rattle.order_rules.specs.Holders.{held}
 use Rattle.replay_model.specs.State.{Replay, want}
 use Rattle.replay_model.specs.Items.{Item, Ended, Move, Makes}
 use Rattle.replay_model.specs.Journal.{order_of, left_for, IsWantedGain, IsLeanItem}

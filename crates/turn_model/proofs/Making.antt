@@ -31,11 +31,11 @@ use Rattle.solo_recording.proofs.Prefix.{one_passes, last_passes}
 use Rattle.crew_recording.specs.Recording.{IsRecorded}
 use Rattle.crew_recording.specs.Allowed.{IsPolled, Allowed, log_so_far}
 use Rattle.crew_recording.proofs.Ordered.{made_entry}
-use Rattle.replay_model.specs.Holders.{Holders, row, held, with_held}
+use Rattle.order_rules.specs.Holders.{Holders, row, held, with_held}
 use Rattle.replay_model.specs.State.{Replay, want}
 use Rattle.replay_model.specs.Items.{Makes, Holds, CanGo, judged, broken_rule, verdict_on, made, acted, past}
 use Rattle.replay_model.proofs.Driving.{mapped}
-use Rattle.replay_model.proofs.Follow.{held_here, held_elsewhere}
+use Rattle.order_rules.proofs.Follow.{held_here, held_elsewhere}
 use Rattle.crew_recording.proofs.Streams.{stream_here, set_there}
 use Rattle.turn_model.specs.Machine.{Machine}
 use Rattle.turn_model.specs.Board.{Board, Rest, Outside, Terms, harts, stream, wanted, closes, is_at_limit, log_of}

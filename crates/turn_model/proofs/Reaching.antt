@@ -9,7 +9,7 @@ use Rattle.log_entry.specs.declared.log.Entry.{Entry}
 use Rattle.log_entry.specs.Parts.{time_of}
 use Rattle.orders_law.specs.Orders.{IsFull}
 use Rattle.order_rules.specs.Orderly.{IsOrderly}
-use Rattle.replay_model.specs.Holders.{nobody}
+use Rattle.order_rules.specs.Holders.{nobody}
 use Rattle.replay_model.specs.State.{Replay, start}
 use Rattle.replay_model.specs.Items.{Item, Move, goes, verdict_on, IsFullOrder, step}
 use Rattle.replay_model.specs.Journal.{order_of, IsWantedGain, IsLean, IsLeanItem, Throughout}

@@ -9,7 +9,7 @@ use Rattle.log_entry.specs.declared.log.Entry.{Entry}
 use Rattle.outside.specs.declared.console.Asked.{Asked}
 use Rattle.device_board.specs.Recording.{recorded_input}
 use Rattle.log_entry.specs.Parts.{strength}
-use Rattle.replay_model.specs.Holders.{held}
+use Rattle.order_rules.specs.Holders.{held}
 use Rattle.replay_model.specs.State.{want}
 use Rattle.turn_model.specs.Machine.{Machine}
 use Rattle.turn_model.specs.Board.{Board, Order, Go, Hold, Rest, Outside, Terms, harts, wanted, closes}

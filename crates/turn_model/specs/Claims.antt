@@ -5,7 +5,7 @@ use Rattle.std.specs.Option.{option_or}
 use Rattle.rv_words.specs.declared.shared.Mode.{Mode}
 use Rattle.rv_words.specs.Modes.{conflicts}
 use Rattle.log_entry.specs.Parts.{strength, conflict, is_some_and}
-use Rattle.replay_model.specs.Holders.{held}
+use Rattle.order_rules.specs.Holders.{held}
 use Rattle.turn_model.specs.Machine.{Machine}
 use Rattle.turn_model.specs.Board.{Board, Terms, harts, wanted, is_at_limit}
 

@@ -14,7 +14,7 @@ use Rattle.outside.specs.declared.console.Asked.{Asked}
 use Rattle.outside.specs.declared.console.Asked.TheVariants as said
 use Rattle.device_board.specs.Recording.{recorded_input}
 use Rattle.order_rules.specs.Rules.{has_poll, waits_due}
-use Rattle.replay_model.specs.Holders.{held}
+use Rattle.order_rules.specs.Holders.{held}
 use Rattle.replay_model.specs.State.{Replay}
 use Rattle.replay_model.specs.Items.{Move, goes, verdict_on}
 use Rattle.replay_model.specs.Journal.{left_for}

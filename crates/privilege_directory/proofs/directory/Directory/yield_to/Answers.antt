@@ -1,7 +1,7 @@
 use Rattle.std.proofs.Common.{◌<◌, sym, subst, refl, arith, length, []}
 use Rattle.rv_words.specs.declared.shared.TheConstants.{MAX_HARTS}
 use Rattle.log_entry.specs.Parts.{strength}
-use Rattle.replay_model.specs.Holders.{held}
+use Rattle.order_rules.specs.Holders.{held}
 use Rattle.privilege_directory.specs.Directory.{Directory, IsSound}
 use Rattle.privilege_directory.proofs.Table.{yielded_view, yielded_sound, room_to_yield, was_read}
 use Rattle.privilege_directory.proofs.directory.Directory.yield_to.Goals as goal

@@ -11,8 +11,8 @@ use Rattle.order_rules.specs.Rules as rules
 use Rattle.order_rules.specs.Rules.{held_after}
 use Rattle.order_rules.proofs.Numbers.{numbers_name}
 use Rattle.order_rules.proofs.Crew.{crew_before}
-use Rattle.replay_model.specs.Holders.{Holders, row, held, with_held}
-use Rattle.replay_model.specs.Laws.{StillFollow, FollowIsCrew}
+use Rattle.order_rules.specs.Holders.{Holders, row, held, with_held}
+use Rattle.order_rules.specs.Laws.{StillFollow, FollowIsCrew}
 
 pub set_here : {X : Type 0} (xs : List X) (i : ℕ) (x : X) → i < length xs → slice_get (slice_set xs i x) i ≡ Some x
 set_here [] i x l = absurd (omega arith)
