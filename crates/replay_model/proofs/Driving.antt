@@ -81,12 +81,12 @@ module _ {S V : Type 0} (flat : Flat S V) where
       ∙ ap (option_and_then (λ u. run_along flat u (acts_of flat log is.0 order))) (one_item s is.0 x.0 (next_item flat log s x.0) (went s is.0 x.0 (next_item flat log s x.0) (verdict_on flat s x.0 (next_item flat log s x.0)) x.1 is.1))
       ∙ leads_along log is.0 t made is.2
 
-pub board_runs : (s : FlatState) (acts : List Act) → run_from s acts ≡ run_along board s acts
-board_runs s [] = refl
-board_runs s (act ∷ acts) = then_same (λ t. run_from t acts) (λ t. run_along board t acts) (λ t. board_runs t acts) (next act s)
+pub board_runs : (unit : ℕ) (s : FlatState) (acts : List Act) → run_from s acts ≡ run_along (board unit) s acts
+board_runs unit s [] = refl
+board_runs unit s (act ∷ acts) = then_same (λ t. run_from t acts) (λ t. run_along (board unit) t acts) (λ t. board_runs unit t acts) (next act s)
 
 pub orders_drive : OrdersDrive
-orders_drive log s t order obeys =
-    board_runs s.flat (acts_of board log s order)
-    ∙ ap (λ o. run_along board s.flat (acts_of board log s o)) (sym obeys.1)
-    ∙ leads_along board log s t obeys.0 obeys.2
+orders_drive unit log s t order obeys =
+    board_runs unit s.flat (acts_of (board unit) log s order)
+    ∙ ap (λ o. run_along (board unit) s.flat (acts_of (board unit) log s o)) (sym obeys.1)
+    ∙ leads_along (board unit) log s t obeys.0 obeys.2

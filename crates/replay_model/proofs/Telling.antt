@@ -57,50 +57,50 @@ silent h s act m = of (next act s) where
   of None = refl
   of (Some u) = ap (λ (g : Option ℕ). (if option_eq nat_eq g (Some h) then between s u h else []) ++ []) m
 
-item_part : (h g : ℕ) (s m : Replay FlatState) (item : Item) → made board s g item ≡ Some m → runs.story h s.flat (acts_of_item board s g item) ≡ part h g (told_of board s g item m)
-item_part h g s m Ended is = absurd (none-some _ is)
-item_part h g s m Move is =
+item_part : (unit : ℕ) (h g : ℕ) (s m : Replay FlatState) (item : Item) → made (board unit) s g item ≡ Some m → runs.story h s.flat (acts_of_item (board unit) s g item) ≡ part h g (told_of (board unit) s g item m)
+item_part unit h g s m Ended is = absurd (none-some _ is)
+item_part unit h g s m Move is =
     let a = mapped (λ (f : FlatState). record s { flat = f }) (next (Run g) s.flat) m is in
     one_told h s.flat a.0 (Run g) a.1 ∙ move_part s.flat a.0 h g ∙ ap (λ (x : Replay FlatState). part h g (Some (between s.flat x.flat g))) a.2
-item_part h g s m (Makes (entries.Touch count ord input)) is =
+item_part unit h g s m (Makes (entries.Touch count ord input)) is =
     let e = entries.Touch count ord input in
-    let p = mapped (past board g e) (acted board s (Touch g input)) m is in
+    let p = mapped (past (board unit) g e) (acted (board unit) s (Touch g input)) m is in
     let a = mapped (λ (f : FlatState). record s { flat = f }) (next (Touch g input) s.flat) p.0 p.1 in
-    one_told h s.flat a.0 (Touch g input) a.1 ∙ move_part s.flat a.0 h g ∙ ap (λ (x : Replay FlatState). part h g (Some (between s.flat x.flat g))) (ap (past board g e) a.2 ∙ p.2)
-item_part h g s m (Makes (entries.Poll count ord time bits)) is = silent h s.flat (Poll g time) refl ∙ sym (no_part h g)
-item_part h g s m (Makes (entries.Gain count page seq mode waits)) is = sym (no_part h g)
-item_part h g s m (Makes (entries.Yield count page seq left)) is = of (ends_reservation board s g page) ∙ sym (no_part h g) where
+    one_told h s.flat a.0 (Touch g input) a.1 ∙ move_part s.flat a.0 h g ∙ ap (λ (x : Replay FlatState). part h g (Some (between s.flat x.flat g))) (ap (past (board unit) g e) a.2 ∙ p.2)
+item_part unit h g s m (Makes (entries.Poll count ord time bits)) is = silent h s.flat (Poll g time) refl ∙ sym (no_part h g)
+item_part unit h g s m (Makes (entries.Gain count page seq mode waits)) is = sym (no_part h g)
+item_part unit h g s m (Makes (entries.Yield count page seq left)) is = of (ends_reservation (board unit) s g page) ∙ sym (no_part h g) where
   of : (b : Bool) → runs.story h s.flat (if b then Lose g ∷ [] else []) ≡ []
   of true = silent h s.flat (Lose g) refl
   of false = refl
-item_part h g s m (Makes (entries.End count)) is = absurd (none-some _ is)
+item_part unit h g s m (Makes (entries.End count)) is = absurd (none-some _ is)
 
 -- the first move of an order stands first in the story
-first_part : (log : Log) (h g : ℕ) (move : Option (List Step)) (more : List (ℕ × Option (List Step))) → flat_map (λ steps. steps) (story board log h ((g, move) ∷ more)) ≡ part h g move ++ flat_map (λ steps. steps) (story board log h more)
-first_part log h g move more = of (if g == h then move else None) where
-  of : (o : Option (List Step)) → flat_map (λ steps. steps) (cons_option o (story board log h more)) ≡ option_map_or (λ steps. steps) o [] ++ flat_map (λ steps. steps) (story board log h more)
+first_part : (unit : ℕ) (log : Log) (h g : ℕ) (move : Option (List Step)) (more : List (ℕ × Option (List Step))) → flat_map (λ steps. steps) (story (board unit) log h ((g, move) ∷ more)) ≡ part h g move ++ flat_map (λ steps. steps) (story (board unit) log h more)
+first_part unit log h g move more = of (if g == h then move else None) where
+  of : (o : Option (List Step)) → flat_map (λ steps. steps) (cons_option o (story (board unit) log h more)) ≡ option_map_or (λ steps. steps) o [] ++ flat_map (λ steps. steps) (story (board unit) log h more)
   of None = refl
   of (Some steps) = refl
 
-went_told : (s m : Replay FlatState) (h : ℕ) (item : Item) (v : Verdict) (w : Option (List Step)) → goes board s h item v ≡ Some (m, w) → w ≡ told_of board s h item m
-went_told s m h item CanGo w is =
-    let a = mapped (λ (t : Replay FlatState). (t, told_of board s h item t)) (made board s h item) (m, w) is in
-    sym (ap (λ (x : Replay FlatState × Option (List Step)). x.1) a.2) ∙ ap (λ (x : Replay FlatState × Option (List Step)). told_of board s h item x.0) a.2
-went_told s m h item HasEnded w is = absurd (none-some _ is)
-went_told s m h item Holds w is = absurd (none-some _ is)
-went_told s m h item (HasDiverged rule) w is = absurd (none-some _ is)
+went_told : (unit : ℕ) (s m : Replay FlatState) (h : ℕ) (item : Item) (v : Verdict) (w : Option (List Step)) → goes (board unit) s h item v ≡ Some (m, w) → w ≡ told_of (board unit) s h item m
+went_told unit s m h item CanGo w is =
+    let a = mapped (λ (t : Replay FlatState). (t, told_of (board unit) s h item t)) (made (board unit) s h item) (m, w) is in
+    sym (ap (λ (x : Replay FlatState × Option (List Step)). x.1) a.2) ∙ ap (λ (x : Replay FlatState × Option (List Step)). told_of (board unit) s h item x.0) a.2
+went_told unit s m h item HasEnded w is = absurd (none-some _ is)
+went_told unit s m h item Holds w is = absurd (none-some _ is)
+went_told unit s m h item (HasDiverged rule) w is = absurd (none-some _ is)
 
 pub orders_tell : OrdersTell
-orders_tell log s t [] h is = refl
-orders_tell log s t (x ∷ more) h is =
+orders_tell unit log s t [] h is = refl
+orders_tell unit log s t (x ∷ more) h is =
     let order = map (λ (m : ℕ × Option (List Step)). m.0) more in
-    let item = next_item board log s x.0 in
-    let acts = acts_of_item board s x.0 item in
-    let makes = went board s is.0 x.0 item (verdict_on board s x.0 item) x.1 is.1 in
-    let later = flat_map (λ (steps : List Step). steps) (story board log h more) in
-    first_part log h x.0 x.1 more
-    ∙ ap (λ v. part h x.0 v ++ later) (went_told s is.0 x.0 item (verdict_on board s x.0 item) x.1 is.1)
-    ∙ ap (λ zs. zs ++ later) (sym (item_part h x.0 s is.0 item makes))
-    ∙ ap (λ zs. runs.story h s.flat acts ++ zs) (orders_tell log is.0 t more h is.2)
-    ∙ sym (story_append h s.flat is.0.flat acts (acts_of board log is.0 order) (board_runs s.flat acts ∙ one_item board s is.0 x.0 item makes))
-    ∙ sym (ap (λ o. runs.story h s.flat (option_map_or (λ (m : Replay FlatState × Option (List Step)). acts ++ acts_of board log m.0 order) o [])) is.1)
+    let item = next_item (board unit) log s x.0 in
+    let acts = acts_of_item (board unit) s x.0 item in
+    let makes = went (board unit) s is.0 x.0 item (verdict_on (board unit) s x.0 item) x.1 is.1 in
+    let later = flat_map (λ (steps : List Step). steps) (story (board unit) log h more) in
+    first_part unit log h x.0 x.1 more
+    ∙ ap (λ v. part h x.0 v ++ later) (went_told unit s is.0 x.0 item (verdict_on (board unit) s x.0 item) x.1 is.1)
+    ∙ ap (λ zs. zs ++ later) (sym (item_part unit h x.0 s is.0 item makes))
+    ∙ ap (λ zs. runs.story h s.flat acts ++ zs) (orders_tell unit log is.0 t more h is.2)
+    ∙ sym (story_append h s.flat is.0.flat acts (acts_of (board unit) log is.0 order) (board_runs unit s.flat acts ∙ one_item (board unit) s is.0 x.0 item makes))
+    ∙ sym (ap (λ o. runs.story h s.flat (option_map_or (λ (m : Replay FlatState × Option (List Step)). acts ++ acts_of (board unit) log m.0 order) o [])) is.1)

@@ -14,10 +14,6 @@ use Rattle.flat_machine.specs.Runs.{step_between}
 use Rattle.flat_machine.specs.declared.results.Step.{Step}
 use Rattle.replay_model.specs.Flat.{Flat}
 
--- pages are of 4,096 bytes
-abbrev pub unit : ℕ
-unit = 4096
-
 -- the device access of a hart's next move, where it is one
 abbrev pub next_access : Hart → List ℕ → Option Access
 next_access x memory = access_of (need_of (next_move x memory))
@@ -25,8 +21,9 @@ next_access x memory = access_of (need_of (next_move x memory))
 abbrev pub hart_access : FlatState → ℕ → Option Access
 hart_access s h = option_and_then (λ x. next_access x s.memory) (slice_get s.harts h)
 
-abbrev pub board : Flat FlatState (List Step)
-board = record {
+-- pages are of so many bytes
+abbrev pub board : ℕ → Flat FlatState (List Step)
+board unit = record {
   next = λ s act. next act s;
   harts = λ s. length s.harts;
   count = λ s h. slice_index s.counts h;
