@@ -11,6 +11,7 @@ use Rattle.log_entry.specs.declared.waits.WaitFor.{WaitFor}
 use Rattle.log_entry.specs.declared.log.Entry.{Entry}
 use Rattle.log_entry.specs.declared.log.Entry.TheVariants.{Gain, Yield, Poll, Touch, End}
 use Rattle.log_entry.specs.declared.log.Log.{Log}
+use Rattle.order_rules.specs.Holders.{nobody, with_held}
 use Rattle.order_rules.specs.Orderly.{Spot, rules, first_broken, IsOrderly, IsLeastBreak}
 
 abbrev pub log_of : ℕ → ℕ → Cause → List (List Entry) → Log
@@ -68,6 +69,23 @@ code_log = log_of 1 12 Limit (
     ∷ (poll 0 1 5 ∷ gain 0 0 1 Read [] ∷ Yield 4 0 2 None ∷ gain 4 0 5 Read (from 0 5 ∷ []) ∷ End 12 ∷ [])
     ∷ [])
 
+-- three harts of which two gain page 0 in Read and yield it, and the third then gains it with these waits
+abbrev pub third_waits : List WaitFor → Log
+third_waits waits = log_of 1 9 Limit (
+    (poll 0 0 5 ∷ gain 0 0 0 Read [] ∷ Yield 3 0 2 None ∷ End 9 ∷ [])
+    ∷ (poll 0 1 5 ∷ gain 0 0 1 Read [] ∷ Yield 5 0 3 None ∷ End 9 ∷ [])
+    ∷ (poll 0 2 5 ∷ gain 0 0 4 Write waits ∷ End 9 ∷ [])
+    ∷ [])
+
+-- three harts of which the first yields page 0 and the second gains it in Read, then in Write with its own waits; once it
+-- has left Read, the third gains the page with the other waits
+abbrev pub gained_again : List WaitFor → List WaitFor → Log
+gained_again own other = log_of 1 9 Limit (
+    (poll 0 0 5 ∷ gain 0 0 0 Write [] ∷ Yield 1 0 1 None ∷ End 9 ∷ [])
+    ∷ (poll 0 1 5 ∷ gain 0 0 2 Read (from 0 1 ∷ []) ∷ gain 3 0 3 Write own ∷ Yield 4 0 4 (Some Read) ∷ End 9 ∷ [])
+    ∷ (poll 0 2 5 ∷ gain 0 0 5 Read other ∷ End 9 ∷ [])
+    ∷ [])
+
 -- Polls at so many multiples of 4,096, and End at the next one
 abbrev pub polls : ℕ → List Entry
 polls n = map (λ k. poll (k * 4096) k 5) (below n)
@@ -106,7 +124,17 @@ pub record AreBroken : Type 0 where
   pub no_wait : Breaks (beside (poll 0 0 5 ∷ gain 0 0 0 Read [] ∷ Yield 1 0 1 None ∷ End 1 ∷ []) (poll 0 1 5 ∷ gain 0 0 2 Write [] ∷ End 1 ∷ [])) 7 1 1
   pub own_wait : Breaks (alone 9 (poll 0 0 5 ∷ gain 0 0 0 Write [] ∷ Yield 1 0 1 None ∷ gain 1 0 2 Read (from 0 1 ∷ []) ∷ End 2 ∷ [])) 7 0 3
   pub own_yield : breaks_first (alone 9 (poll 0 0 5 ∷ gain 0 0 0 Write [] ∷ Yield 1 0 1 None ∷ gain 1 0 2 Read [] ∷ End 2 ∷ [])) ≡ None
+  pub waits_in_order : breaks_first (third_waits (from 0 3 ∷ from 1 5 ∷ [])) ≡ None
+  pub wait_too_few : Breaks (third_waits (from 0 3 ∷ [])) 7 2 1
+  pub wait_too_many : Breaks (third_waits (from 0 3 ∷ from 1 5 ∷ from 1 5 ∷ [])) 7 2 1
+  pub wrong_count_of_a_wait : Breaks (third_waits (from 0 3 ∷ from 1 4 ∷ [])) 7 2 1
+  pub wrong_hart_of_a_wait : Breaks (third_waits (from 1 3 ∷ from 1 5 ∷ [])) 7 2 1
+  pub swapped_waits : Breaks (third_waits (from 1 5 ∷ from 0 3 ∷ [])) 7 2 1
+  pub waits_of_the_latest : breaks_first (gained_again [] (from 1 4 ∷ [])) ≡ None
+  pub yield_before_its_own_gain : Breaks (gained_again (from 0 1 ∷ []) (from 1 4 ∷ [])) 7 1 2
+  pub yield_before_another_gain : Breaks (gained_again [] (from 0 1 ∷ from 1 4 ∷ [])) 7 2 1
   pub ordinal_twice : Breaks (beside (poll 0 0 5 ∷ End 1 ∷ []) (poll 0 0 5 ∷ End 1 ∷ [])) 8 1 0
+  pub ordinal_left_out : Breaks (beside (poll 0 0 5 ∷ touch 1 1 (Time 4) ∷ End 2 ∷ []) (poll 0 3 5 ∷ End 1 ∷ [])) 8 1 0
   pub time_falls : Breaks (beside (poll 0 1 4 ∷ End 1 ∷ []) (poll 0 0 5 ∷ End 1 ∷ [])) 8 0 0
   pub input_falls : Breaks (alone 9 (poll 0 0 5 ∷ touch 0 1 Nothing ∷ touch 1 2 (Time 4) ∷ End 2 ∷ [])) 8 0 2
   pub nothing_has_no_time : breaks_first (alone 9 (poll 0 0 5 ∷ touch 0 1 Nothing ∷ touch 1 2 (Time 5) ∷ End 2 ∷ [])) ≡ None
@@ -114,8 +142,17 @@ pub record AreBroken : Type 0 where
   pub code : breaks_first code_log ≡ None
   pub full : breaks_first full_log ≡ None
 
+-- what each of three harts holds of two pages, once hart 2 has gained page 1 and hart 0 both pages
+pub record AreHeld : Type 0 where
+  pub one : with_held (nobody 2 3) 1 2 (Some Read) ≡ (None ∷ None ∷ None ∷ []) ∷ (None ∷ None ∷ Some Read ∷ []) ∷ []
+  pub three :
+      with_held (with_held (with_held (nobody 2 3) 1 2 (Some Read)) 0 0 (Some Write)) 1 0 (Some Read)
+      ≡ (Some Write ∷ None ∷ None ∷ []) ∷ (Some Read ∷ None ∷ Some Read ∷ []) ∷ []
+  pub given_back : with_held (with_held (nobody 1 2) 0 1 (Some Write)) 0 1 None ≡ nobody 1 2
+
 pub record AreJudged : Type 0 where
   pub broken : AreBroken
+  pub held : AreHeld
   pub smallest : IsOrderly (smallest_log 100 0 1)
   pub race : IsOrderly race_log
   pub twice : IsLeastBreak twice_log 5 1 0
