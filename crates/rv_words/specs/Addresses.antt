@@ -1,7 +1,8 @@
 -- What stands at an address of a board with so many pages and harts: memory, a device word, or nothing. Memory
--- begins at 0x80000000, and a page has 4,096 bytes. The layout is this board's own (docs/board.md); timer and
--- software interrupts lie as in the layout known as CLINT.
+-- begins at 0x80000000. The layout is this board's own (docs/board.md); timer and software interrupts lie as in
+-- the layout known as CLINT.
 use Rattle.std.specs.Prelude.{ℕ, ◌+◌, ◌-◌, ◌*◌, ◌/◌, ◌%◌, ◌==◌, ◌<◌, ◌≤◌, nat_le, nat_lt, Bool, ◌&&◌, if◌then◌else◌, Option, Some, None, is_some}
+use Rattle.rv_words.specs.Limits.{page_bytes}
 use Rattle.rv_words.specs.declared.shared.DeviceWord.{DeviceWord}
 use Rattle.rv_words.specs.declared.shared.DeviceWord.TheVariants.{Msip, CompareLow, CompareHigh, TimeLow, TimeHigh, Rx, Tx, Stop}
 use Rattle.rv_words.specs.declared.shared.Place.{Place}
@@ -9,11 +10,11 @@ use Rattle.rv_words.specs.declared.shared.Place.TheVariants.{Memory, Device, Out
 
 -- the address is that of a byte of memory
 abbrev pub in_memory : ℕ → ℕ → Bool
-in_memory pages at = nat_le 0x80000000 at && nat_lt at (0x80000000 + 4096 * pages)
+in_memory pages at = nat_le 0x80000000 at && nat_lt at (0x80000000 + page_bytes * pages)
 
 -- `size` bytes from an address on lie in memory
 abbrev pub LiesInMemory : ℕ → ℕ → ℕ → Type 0
-LiesInMemory pages at size = (0x80000000 ≤ at) × (at + size ≤ 0x80000000 + 4096 * pages)
+LiesInMemory pages at size = (0x80000000 ≤ at) × (at + size ≤ 0x80000000 + page_bytes * pages)
 
 -- one word for each hart: the first stands at `first`, the next ones `step` bytes on
 abbrev pub in_row : ℕ → ℕ → ℕ → ℕ → Bool
@@ -40,7 +41,7 @@ device_word harts at =
 -- the page of memory, a device word, or neither
 abbrev pub place_of : ℕ → ℕ → ℕ → Place
 place_of pages harts at =
-    if in_memory pages at then Memory ((at - 0x80000000) / 4096)
+    if in_memory pages at then Memory ((at - 0x80000000) / page_bytes)
     else if is_some (device_word harts at) then Device
     else Outside
 

@@ -14,7 +14,9 @@ pub use arithmetic::{
     add, div, divu, mul, mulh, mulhsu, mulhu, rem, remu, sll, slt, sltu, sra, srl, sub,
 };
 pub use halves::{has_bit, high_half, low_half, with_high_half, with_low_half};
-pub use shared::{Access, Cause, DeviceWord, Input, MAX_HARTS, Mode, Place};
+pub use shared::{
+    Access, Cause, DeviceWord, Input, MAX_HARTS, MOST_PAGES, Mode, PAGE_BYTES, POLL_DISTANCE, Place,
+};
 
 #[cfg(test)]
 mod tests;

@@ -5,6 +5,15 @@ ghost use Rattle.std.specs.Prelude.{◌≡◌};
 /// A board has from 1 to this many harts.
 pub const MAX_HARTS: u8 = 8;
 
+/// A board has from 1 to this many pages.
+pub const MOST_PAGES: u16 = 4096;
+
+/// Bytes of a page, as images and logs count pages.
+pub const PAGE_BYTES: u16 = 4096;
+
+/// Moves of a hart from one due Poll to the next.
+pub const POLL_DISTANCE: u64 = 4096;
+
 /// A data access of a hart to a device word: a load where nothing is stored.
 #[derive(Clone, Copy, Debug, PartialEq, Eq)]
 pub struct Access {
