@@ -1,9 +1,10 @@
 -- Start, interrupts, trap entry, MRET and counting, after the RISC-V Privileged manual, chapter "Machine-Level ISA". The
 -- reset values, and that mcycle counts moves, are the board's own rules (docs/board.md).
-use Rattle.std.specs.Prelude.{ℕ, ◌+◌, ◌*◌, ◌/◌, ◌%◌, ◌^◌, ◌==◌, ◌&&◌, ◌||◌, not, Bool, true, false, if◌then◌else◌, Option, Some, None, List, [], ◌∷◌}
+use Rattle.std.specs.Prelude.{ℕ, zero, suc, ◌+◌, ◌*◌, ◌/◌, ◌%◌, ◌^◌, ◌==◌, ◌&&◌, ◌||◌, not, Bool, true, false, if◌then◌else◌, Option, Some, None, List, [], ◌∷◌}
 use Rattle.std.specs.List.{find}
 use Rattle.std.specs.Option.{option_map}
 use Rattle.rv_words.specs.Words.{has_bit, word_add}
+use Rattle.rv_csr.specs.Causes.{software_bit, timer_bit, external_bit, interrupt_cause}
 use Rattle.rv_csr.specs.State.{Csrs}
 use Rattle.rv_csr.specs.Registers.{mip}
 
@@ -27,14 +28,14 @@ csrs_at_start hart =
 
 -- the interrupts by their bit in mie and mip, in the order in which they are entered: external, software, timer
 abbrev pub interrupts : List ℕ
-interrupts = 11 ∷ 3 ∷ 7 ∷ []
+interrupts = external_bit ∷ software_bit ∷ timer_bit ∷ []
 
 abbrev pub is_raised : Csrs → ℕ → Bool
 is_raised s k = has_bit s.mie k && has_bit (mip s) k
 
 -- the cause of the interrupt that is entered next
 abbrev pub pending : Csrs → Option ℕ
-pending s = if s.status_mie then option_map (λ k. 0x80000000 + k) (find (is_raised s) interrupts) else None
+pending s = if s.status_mie then option_map interrupt_cause (find (is_raised s) interrupts) else None
 
 -- where a trap goes: the base of mtvec, or an interrupt's own place behind it where bit 0 of mtvec is set
 abbrev pub trap_target : ℕ → ℕ → ℕ
@@ -63,6 +64,11 @@ counted retired wrote s =
       mcycle = if is_half wrote 0xB00 0xB80 then s.mcycle else (s.mcycle + 1) % 2 ^ 64;
       minstret = if not retired || is_half wrote 0xB02 0xB82 then s.minstret else (s.minstret + 1) % 2 ^ 64;
     }
+
+-- the registers after so many moves that each retired and wrote no counter
+abbrev pub counted_times : ℕ → Csrs → Csrs
+counted_times zero s = s
+counted_times (suc n) s = counted true None (counted_times n s)
 
 abbrev pub with_lines : ℕ → Csrs → Csrs
 with_lines lines s = record s { software_line = has_bit lines 0; timer_line = has_bit lines 1 }

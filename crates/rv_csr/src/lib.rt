@@ -3,8 +3,11 @@
 
 ghost use Rattle.std.specs.Prelude.{◌≡◌, ◌%◌, ◌<◌, is_some, unwrap_or};
 ghost use Rattle.rv_csr.specs.Registers.{csr_read, csr_written, is_read_only, mip, mstatus};
-ghost use Rattle.rv_csr.specs.Traps.{csrs_at_start, pending, trap_target, trap_entered, trap_left, is_half, counted, with_lines};
+ghost use Rattle.rv_csr.specs.Traps.{csrs_at_start, pending, trap_target, trap_entered, trap_left, is_half, counted, counted_times, with_lines};
 
+pub mod causes;
+
+use crate::causes::{SOFTWARE_BIT, SOFTWARE_INTERRUPT, TIMER_BIT, TIMER_INTERRUPT};
 use rv_words::{has_bit, high_half, low_half, with_high_half, with_low_half};
 use std::marker::Model;
 
@@ -165,10 +168,10 @@ impl Csrs {
     {
         if !self.status_mie {
             None
-        } else if self.software_line && has_bit(self.mie, 3) {
-            Some(0x8000_0003)
-        } else if self.timer_line && has_bit(self.mie, 7) {
-            Some(0x8000_0007)
+        } else if self.software_line && has_bit(self.mie, SOFTWARE_BIT) {
+            Some(SOFTWARE_INTERRUPT)
+        } else if self.timer_line && has_bit(self.mie, TIMER_BIT) {
+            Some(TIMER_INTERRUPT)
         } else {
             None
         }
@@ -193,6 +196,16 @@ impl Csrs {
         if retired && !is_half(wrote, 0xb02, 0xb82) {
             self.minstret = self.minstret.wrapping_add(1);
         }
+    }
+
+    /// Counts so many moves that each retired and wrote no counter.
+    #[tactic(auto, using(crate::proofs::Counts::times_are))]
+    pub fn count_moves(&mut self, moves: u64)
+        requires { 0 < moves }
+        ensures { self.new ≡ counted_times moves self.old }
+    {
+        self.mcycle = self.mcycle.wrapping_add(moves);
+        self.minstret = self.minstret.wrapping_add(moves);
     }
 }
 
