@@ -2,10 +2,10 @@
 use Rattle.std.proofs.Common.{◌≡◌, ◌≢◌, ℕ, zero, suc, ◌+◌, ◌<◌, ◌≤◌, Bool, true, false, not, ◌||◌, ◌&&◌, cond, List, [], ◌∷◌, map, length, Option, Some, None, find, slice_get, unwrap_or, nat_le, refl, sym, ap, ◌∙◌, subst, inl, inr, ◌⊎◌, arith, add-zero, zero-add, eq-or-lt_of_le, le_of_suc-le-suc, subst₂, true≢false, ◌==◌, if◌then◌else◌}
 use Rattle.std.specs.List.{list_any}
 use Rattle.std.specs.Option.{option_or}
-use Rattle.std.proofs.lemmas.Option.{none-some, same_Some}
+use Rattle.std.proofs.lemmas.Option.{none-some, same_Some, slice_get_within}
 use Rattle.std.proofs.lemmas.List.Folds.{find-append, list_any-append}
 use Rattle.std.proofs.lemmas.Bool.Decides.{eqb_tells}
-use Rattle.std.proofs.lemmas.Bool.{eqb-true}
+use Rattle.std.proofs.lemmas.Bool.{eqb-true, or_parts}
 use Rattle.rv_words.specs.declared.shared.Mode.{Mode}
 use Rattle.rv_words.specs.declared.shared.Mode.TheVariants.{Read, Write}
 use Rattle.log_entry.specs.declared.log.Entry.{Entry}
@@ -18,7 +18,7 @@ use Rattle.order_rules.specs.Rules.{held, held_after, breaks_o6}
 use Rattle.order_rules.specs.Orderly.{Keeps, o6}
 use Rattle.order_rules.specs.Laws.{IsSpot, CrewBefore}
 use Rattle.order_rules.proofs.Least.{none_passes}
-use Rattle.order_rules.proofs.Numbers.{in_stream, below_length, neither_holds, rows_from, of_hart}
+use Rattle.order_rules.proofs.Numbers.{in_stream, below_length, rows_from, of_hart}
 
 -- where an entry was found in the streams from a hart on
 pub record Found (test : Entry → Bool) (n : ℕ) (streams : List (List Entry)) (x : ℕ × Entry) : Type 0 where
@@ -44,33 +44,45 @@ module _ (test : Entry → Bool) where
       later : FoundInRow test k s x → FoundInRow test k (y ∷ s) x
       later r = record { place = suc r.place; same = r.same; at = r.at; passes = r.passes }
 
-      by : (b : Bool) → test y ≡ b → cond b (Some (k, y)) (find (of_hart test) (map (λ e. (k, e)) s)) ≡ Some x → (find (of_hart test) (map (λ e. (k, e)) s) ≡ Some x → FoundInRow test k s x) → FoundInRow test k (y ∷ s) x
+      by : (b : Bool) → test y ≡ b → cond b (Some (k, y)) (find (of_hart test) (map (λ e. (k, e)) s)) ≡ Some x
+          → (find (of_hart test) (map (λ e. (k, e)) s) ≡ Some x → FoundInRow test k s x) → FoundInRow test k (y ∷ s) x
       by true t e' rest =
           let same : (k, y) ≡ x = same_Some _ _ e' in
-          record { place = 0; same = ap (λ (z : ℕ × Entry). z.0) same; at = ap (λ (z : ℕ × Entry). Some z.1) same; passes = subst (λ (z : ℕ × Entry). test z.1 ≡ true) same t }
+          record {
+            place = 0;
+            same = ap (λ (z : ℕ × Entry). z.0) same;
+            at = ap (λ (z : ℕ × Entry). Some z.1) same;
+            passes = subst (λ (z : ℕ × Entry). test z.1 ≡ true) same t;
+          }
       by false t e' rest = later (rest e')
 
   in_rows : (n : ℕ) (streams : List (List Entry)) (x : ℕ × Entry) → find (of_hart test) (rows_from test n streams) ≡ Some x → Found test n streams x
   in_rows n [] x e = absurd (none-some _ e)
-  in_rows n (s ∷ streams) x e = by (find (of_hart test) (map (λ e. (n, e)) s)) refl (sym (find-append (of_hart test) (map (λ e. (n, e)) s) (rows_from test (n + 1) streams)) ∙ e) (λ d. in_rows (n + 1) streams x d)
+  in_rows n (s ∷ streams) x e =
+      by (find (of_hart test) (map (λ e. (n, e)) s)) refl (sym (find-append (of_hart test) (map (λ e. (n, e)) s) (rows_from test (n + 1) streams)) ∙ e)
+      (λ d. in_rows (n + 1) streams x d)
     where
       later : Found test (n + 1) streams x → Found test n (s ∷ streams) x
-      later r = let same = r.same in record { hart = suc r.hart; place = r.place; same = omega (arith, same); stream = r.stream; there = r.there; at = r.at; passes = r.passes }
+      later r = let same = r.same in
+          record { hart = suc r.hart; place = r.place; same = omega (arith, same); stream = r.stream; there = r.there; at = r.at; passes = r.passes }
 
-      by : (o : Option (ℕ × Entry)) → find (of_hart test) (map (λ e. (n, e)) s) ≡ o → option_or o (find (of_hart test) (rows_from test (n + 1) streams)) ≡ Some x → (find (of_hart test) (rows_from test (n + 1) streams) ≡ Some x → Found test (n + 1) streams x) → Found test n (s ∷ streams) x
+      by : (o : Option (ℕ × Entry)) → find (of_hart test) (map (λ e. (n, e)) s) ≡ o
+          → option_or o (find (of_hart test) (rows_from test (n + 1) streams)) ≡ Some x
+          → (find (of_hart test) (rows_from test (n + 1) streams) ≡ Some x → Found test (n + 1) streams x) → Found test n (s ∷ streams) x
       by None f e' rest = later (rest e')
-      by (Some y) f e' rest = let r = in_row n s x (f ∙ e') in record { hart = 0; place = r.place; same = add-zero n ∙ r.same; stream = s; there = refl; at = r.at; passes = r.passes }
+      by (Some y) f e' rest = let r = in_row n s x (f ∙ e') in
+          record { hart = 0; place = r.place; same = add-zero n ∙ r.same; stream = s; there = refl; at = r.at; passes = r.passes }
 
-conflict-sym : (a b : Option Mode) → conflict a b ≡ conflict b a
-conflict-sym None None = refl
-conflict-sym None (Some Read) = refl
-conflict-sym None (Some Write) = refl
-conflict-sym (Some Read) None = refl
-conflict-sym (Some Write) None = refl
-conflict-sym (Some Read) (Some Read) = refl
-conflict-sym (Some Read) (Some Write) = refl
-conflict-sym (Some Write) (Some Read) = refl
-conflict-sym (Some Write) (Some Write) = refl
+pub conflict_turned : (a b : Option Mode) → conflict a b ≡ conflict b a
+conflict_turned None None = refl
+conflict_turned None (Some Read) = refl
+conflict_turned None (Some Write) = refl
+conflict_turned (Some Read) None = refl
+conflict_turned (Some Write) None = refl
+conflict_turned (Some Read) (Some Read) = refl
+conflict_turned (Some Read) (Some Write) = refl
+conflict_turned (Some Write) (Some Read) = refl
+conflict_turned (Some Write) (Some Write) = refl
 
 -- what conflicts with less conflicts with more
 weaker : (a b c : Option Mode) → nat_le (strength a) (strength b) ≡ false → conflict a c ≡ false → conflict b c ≡ false
@@ -86,16 +98,11 @@ weaker (Some Write) (Some Write) c l n = absurd (true≢false l)
 any_below : (test : ℕ → Bool) (n : ℕ) → list_any test (below n) ≡ false → (i : ℕ) → i < n → test i ≡ false
 any_below test zero e i l = absurd (omega arith)
 any_below test (suc n) e i l =
-    let both = neither_holds (list_any test (below n)) (test n || false) (sym (list_any-append test (below n) (n ∷ [])) ∙ e) in
+    let both = or_parts (list_any test (below n)) (test n || false) (sym (list_any-append test (below n) (n ∷ [])) ∙ e) in
     elim (eq-or-lt_of_le (le_of_suc-le-suc l)) [
-      | inl same ↦ subst (λ j. test j ≡ false) (sym same) ((neither_holds (test n) false both.1).0)
+      | inl same ↦ subst (λ j. test j ≡ false) (sym same) ((or_parts (test n) false both.1).0)
       | inr less ↦ any_below test n both.0 i less
     ]
-
-there_below : {X : Type 0} (xs : List X) (i : ℕ) (x : X) → slice_get xs i ≡ Some x → i < length xs
-there_below [] i x e = absurd (none-some _ e)
-there_below (y ∷ xs) zero x e = omega arith
-there_below (y ∷ xs) (suc i) x e = let l = there_below xs i x e in omega (arith, l)
 
 found_of : (log : Log) (page k x : ℕ) (e : Entry) → numbered log page k ≡ Some (x, e) → Found (λ z. is_number k (number_on page z)) 0 log.streams (x, e)
 found_of log page k x e is = in_rows (λ z. is_number k (number_on page z)) 0 log.streams (x, e) is
@@ -104,7 +111,7 @@ found_of log page k x e is = in_rows (λ z. is_number k (number_on page z)) 0 lo
 hart_there : (log : Log) (page k x : ℕ) (e : Entry) → numbered log page k ≡ Some (x, e) → x < length log.streams
 hart_there log page k x e is =
     let f = found_of log page k x e is in
-    let l = there_below log.streams f.hart f.stream f.there in
+    let l = slice_get_within log.streams f.hart f.stream f.there in
     let same = f.same in omega (arith, l, same)
 
 -- a hart that the log hasn't holds nothing
@@ -120,7 +127,8 @@ holds_nothing log page h (suc k) l = by (numbered log page k) refl (holds_nothin
     ]
 
 -- the entry keeps O6
-keeps_o6 : (log : Log) (page k x : ℕ) (e : Entry) → Keeps log o6 → numbered log page k ≡ Some (x, e) → (i : ℕ) × (breaks_o6 log (record { hart = x; place = i; entry = e }) ≡ false) × (is_number k (number_on page e) ≡ true)
+keeps_o6 : (log : Log) (page k x : ℕ) (e : Entry) → Keeps log o6 → numbered log page k ≡ Some (x, e)
+    → (i : ℕ) × (breaks_o6 log (record { hart = x; place = i; entry = e }) ≡ false) × (is_number k (number_on page e) ≡ true)
 keeps_o6 log page k x e kept is =
     let f = found_of log page k x e is in
     let same : f.hart ≡ x = sym (zero-add f.hart) ∙ f.same in
@@ -142,11 +150,14 @@ apart : (log : Log) (page k x i : ℕ) (e : Entry) → breaks_o6 log (record { h
     → (h : ℕ) → x ≢ h → conflict (held log page x k) (held log page h k) ≡ false → conflict (holds_then e) (held log page h k) ≡ false
 apart log page k x i (Gain count p seq mode waits) right passes h n rest =
     let name = named page k p seq passes in
-    let others = (neither_holds (nat_le (strength (Some mode)) (strength (held log p x seq))) (list_any (λ g. not (g == x) && conflict (Some mode) (held log p g seq)) (harts log)) right).1 in
+    let others =
+    (or_parts (nat_le (strength (Some mode)) (strength (held log p x seq)))
+    (list_any (λ g. not (g == x) && conflict (Some mode) (held log p g seq)) (harts log)) right).1 in
     let here : list_any (λ g. not (g == x) && conflict (Some mode) (held log page g k)) (harts log) ≡ false =
     subst₂ (λ q j. list_any (λ g. not (g == x) && conflict (Some mode) (held log q g j)) (harts log) ≡ false) name.0 name.1 others in
     elim (lt_or_le h (length log.streams)) [
-      | inl l ↦ from_test (h == x) (conflict (Some mode) (held log page h k)) (eqb_tells h x) (any_below (λ g. not (g == x) && conflict (Some mode) (held log page g k)) (length log.streams) here h l)
+      | inl l ↦ from_test (h == x) (conflict (Some mode) (held log page h k)) (eqb_tells h x)
+          (any_below (λ g. not (g == x) && conflict (Some mode) (held log page g k)) (length log.streams) here h l)
       | inr l ↦ ap (conflict (Some mode)) (holds_nothing log page h k l) ∙ with_nothing mode
     ]
   where
@@ -171,7 +182,8 @@ apart log page k x i (Touch count ord input) right passes h n rest = absurd (tru
 apart log page k x i (End count) right passes h n rest = absurd (true≢false (sym passes))
 
 -- what two harts hold after the entry of a number doesn't conflict, if nothing did so before
-step_apart : (log : Log) (page k g h : ℕ) (x : ℕ × Entry) → Keeps log o6 → numbered log page k ≡ Some x → g ≢ h → ((a b : ℕ) → a ≢ b → conflict (held log page a k) (held log page b k) ≡ false)
+step_apart : (log : Log) (page k g h : ℕ) (x : ℕ × Entry) → Keeps log o6 → numbered log page k ≡ Some x → g ≢ h
+    → ((a b : ℕ) → a ≢ b → conflict (held log page a k) (held log page b k) ≡ false)
     → conflict (held_after g (held log page g k) (Some x)) (held_after h (held log page h k) (Some x)) ≡ false
 step_apart log page k g h x kept is n rest = two (eqb_tells x.0 g) (eqb_tells x.0 h)
   where
@@ -187,8 +199,9 @@ step_apart log page k g h x kept is n rest = two (eqb_tells x.0 g) (eqb_tells x.
     two (inl (t, a)) (inr (u, b)) = ap (λ c. conflict (held_by c g) (held_by (x.0 == h) h)) t ∙ ap (λ c. conflict (holds_then x.1) (held_by c h)) u
         ∙ apart log page k x.0 okay.0 x.1 okay.1 okay.2 h b (rest x.0 h b)
     two (inr (t, a)) (inl (u, b)) = ap (λ c. conflict (held_by c g) (held_by (x.0 == h) h)) t ∙ ap (λ c. conflict (held log page g k) (held_by c h)) u
-        ∙ conflict-sym (held log page g k) (holds_then x.1) ∙ apart log page k x.0 okay.0 x.1 okay.1 okay.2 g a (rest x.0 g a)
-    two (inr (t, a)) (inr (u, b)) = ap (λ c. conflict (held_by c g) (held_by (x.0 == h) h)) t ∙ ap (λ c. conflict (held log page g k) (held_by c h)) u ∙ rest g h n
+        ∙ conflict_turned (held log page g k) (holds_then x.1) ∙ apart log page k x.0 okay.0 x.1 okay.1 okay.2 g a (rest x.0 g a)
+    two (inr (t, a)) (inr (u, b)) =
+        ap (λ c. conflict (held_by c g) (held_by (x.0 == h) h)) t ∙ ap (λ c. conflict (held log page g k) (held_by c h)) u ∙ rest g h n
 
 pub crew_before : CrewBefore
 crew_before log page zero g h kept n = refl

@@ -1,22 +1,16 @@
 -- The first of the spots that passes a test is the least.
-use Rattle.std.proofs.Common.{◌≡◌, ℕ, zero, suc, ◌+◌, ◌<◌, Bool, true, false, cond, List, [], ◌∷◌, ◌++◌, map, flat_map, length, Option, Some, None, find, ◌⊎◌, eq-or-lt_of_le, le_of_suc-le-suc, zero-add, true≢false, refl, sym, ap, ◌∙◌, subst, inl, inr, arith}
+use Rattle.std.proofs.Common.{◌≡◌, ℕ, zero, suc, ◌+◌, ◌<◌, Bool, true, false, cond, List, [], ◌∷◌, map, flat_map, length, Option, Some, None, find, ◌⊎◌, eq-or-lt_of_le, le_of_suc-le-suc, zero-add, true≢false, refl, sym, ap, ◌∙◌, subst, inl, inr, arith}
 use Rattle.std.specs.Option.{option_or}
 use Rattle.std.specs.List.{enumerate_from}
 use Rattle.std.proofs.lemmas.Option.{none-some, same_Some}
 use Rattle.std.proofs.lemmas.List.Folds.{find-append}
+use Rattle.std.proofs.lemmas.List.{map-append}
+use Rattle.shared_types.proofs.Lists.{neither_there, not_found}
 use Rattle.log_entry.specs.declared.log.Entry.{Entry}
 use Rattle.log_entry.specs.declared.log.Log.{Log}
 use Rattle.orders_law.specs.Orders.{below}
 use Rattle.order_rules.specs.Orderly.{Spot, spots}
 use Rattle.order_rules.specs.Laws.{IsSpot, IsBefore, IsLeastSpot, FirstIsLeast}
-
-neither : {X : Type 0} (a b : Option X) → option_or a b ≡ None → (a ≡ None) × (b ≡ None)
-neither None b e = (refl, e)
-neither (Some x) b e = absurd (none-some x (sym e))
-
-not_found : {X : Type 0} (b : Bool) (x : X) → cond b (Some x) None ≡ None → b ≡ false
-not_found true x e = absurd (none-some x (sym e))
-not_found false x e = refl
 
 -- the first of two, or the second where the first isn't there
 pub data Either {X : Type 0} (a b : Option X) (p : X) : Type 0 where
@@ -30,10 +24,6 @@ either (Some x) b p e = left e
 found_one : {X : Type 0} (b : Bool) (x p : X) → cond b (Some x) None ≡ Some p → (b ≡ true) × (x ≡ p)
 found_one true x p e = (refl, same_Some _ _ e)
 found_one false x p e = absurd (none-some p e)
-
-map-append : {A B : Type 0} (f : A → B) (xs ys : List A) → map f (xs ++ ys) ≡ map f xs ++ map f ys
-map-append f [] ys = refl
-map-append f (x ∷ xs) ys = ap (λ zs. f x ∷ zs) (map-append f xs ys)
 
 eq_or_below : (i m : ℕ) → i < suc m → (i ≡ m) ⊎ (i < m)
 eq_or_below i m l = eq-or-lt_of_le (le_of_suc-le-suc l)
@@ -49,7 +39,7 @@ module _ (test : Spot → Bool) where
   none_in_row : (k m : ℕ) → find test (row k m) ≡ None → (i : ℕ) → i < m → test (k, i) ≡ false
   none_in_row k zero e i l = absurd (omega arith)
   none_in_row k (suc m) e i l =
-      let both = neither (find test (row k m)) (cond (test (k, m)) (Some (k, m)) None) (sym (row-suc k m) ∙ e) in
+      let both = neither_there (find test (row k m)) (cond (test (k, m)) (Some (k, m)) None) (sym (row-suc k m) ∙ e) in
       elim (eq_or_below i m l) [
         | inl same ↦ subst (λ j. test (k, j) ≡ false) (sym same) (not_found (test (k, m)) (k, m) both.1)
         | inr less ↦ none_in_row k m both.0 i less
@@ -81,20 +71,21 @@ module _ (test : Spot → Bool) where
   spots_from : ℕ → List (List Entry) → List Spot
   spots_from n streams = flat_map (λ s. map (λ i. (s.0, i)) (below (length s.1 + 1))) (enumerate_from n streams)
 
-  spots-cons : (n : ℕ) (s : List Entry) (streams : List (List Entry)) → find test (spots_from n (s ∷ streams)) ≡ option_or (find test (row n (length s + 1))) (find test (spots_from (n + 1) streams))
+  spots-cons : (n : ℕ) (s : List Entry) (streams : List (List Entry))
+      → find test (spots_from n (s ∷ streams)) ≡ option_or (find test (row n (length s + 1))) (find test (spots_from (n + 1) streams))
   unfolding row spots_from
   spots-cons n s streams = find-append test (row n (length s + 1)) (spots_from (n + 1) streams)
 
   none_from : (n : ℕ) (streams : List (List Entry)) → find test (spots_from n streams) ≡ None → (h i : ℕ) → IsSpot streams (h, i) → test (n + h, i) ≡ false
   none_from n [] e h i spot = absurd (none-some _ spot.1)
   none_from n (s ∷ streams) e zero i spot =
-      let both = neither (find test (row n (length s + 1))) (find test (spots_from (n + 1) streams)) (sym (spots-cons n s streams) ∙ e) in
+      let both = neither_there (find test (row n (length s + 1))) (find test (spots_from (n + 1) streams)) (sym (spots-cons n s streams) ∙ e) in
       let same : s ≡ spot.0 = same_Some _ _ spot.1 in
       let within : i < length s + 1 = subst (λ (z : List Entry). i < length z + 1) (sym same) spot.2 in
       let e' : n ≡ n + 0 = omega arith in
       subst (λ k. test (k, i) ≡ false) e' (none_in_row n (length s + 1) both.0 i within)
   none_from n (s ∷ streams) e (suc h) i spot =
-      let both = neither (find test (row n (length s + 1))) (find test (spots_from (n + 1) streams)) (sym (spots-cons n s streams) ∙ e) in
+      let both = neither_there (find test (row n (length s + 1))) (find test (spots_from (n + 1) streams)) (sym (spots-cons n s streams) ∙ e) in
       let e' : (n + 1) + h ≡ n + suc h = omega arith in
       subst (λ k. test (k, i) ≡ false) e' (none_from (n + 1) streams both.1 h i spot)
 
@@ -109,29 +100,34 @@ module _ (test : Spot → Bool) where
   some_from : (n : ℕ) (streams : List (List Entry)) (p : Spot) → find test (spots_from n streams) ≡ Some p → InStreams n streams p
   unfolding spots_from
   some_from n [] p e = absurd (none-some p e)
-  some_from n (s ∷ streams) p e = elim (either (find test (row n (length s + 1))) (find test (spots_from (n + 1) streams)) p (sym (spots-cons n s streams) ∙ e)) [
-    | left f ↦
-        let r = some_in_row n (length s + 1) p f in
-        let hart = r.hart in
-        record { hart = 0; same = omega (arith, hart); spot = (s, refl, r.place); passes = r.passes; least = first_row n s streams p r }
-    | right none f ↦
-        let r = some_from (n + 1) streams p f in
-        let same = r.same in
-        record { hart = suc r.hart; same = omega (arith, same); spot = r.spot; passes = r.passes; least = later_row n s streams p none r }
-  ]
+  some_from n (s ∷ streams) p e =
+      elim (either (find test (row n (length s + 1))) (find test (spots_from (n + 1) streams)) p (sym (spots-cons n s streams) ∙ e)) [
+        | left f ↦
+            let r = some_in_row n (length s + 1) p f in
+            let hart = r.hart in
+            record { hart = 0; same = omega (arith, hart); spot = (s, refl, r.place); passes = r.passes; least = first_row n s streams p r }
+        | right none f ↦
+            let r = some_from (n + 1) streams p f in
+            let same = r.same in
+            record { hart = suc r.hart; same = omega (arith, same); spot = r.spot; passes = r.passes; least = later_row n s streams p none r }
+      ]
     where
-      first_row : (n : ℕ) (s : List Entry) (streams : List (List Entry)) (p : Spot) → InRow n (length s + 1) p → (g i : ℕ) → IsSpot (s ∷ streams) (g, i) → IsBefore (g, i) (0, p.1) → test (n + g, i) ≡ false
+      first_row : (n : ℕ) (s : List Entry) (streams : List (List Entry)) (p : Spot) → InRow n (length s + 1) p → (g i : ℕ) → IsSpot (s ∷ streams) (g, i)
+          → IsBefore (g, i) (0, p.1) → test (n + g, i) ≡ false
       first_row n s streams p r g i spot (inl l) = absurd (omega (arith, l))
       first_row n s streams p r g i spot (inr (same, l)) = let e' : n ≡ n + g = omega (arith, same) in subst (λ k. test (k, i) ≡ false) e' (r.least i l)
 
-      later_row : (n : ℕ) (s : List Entry) (streams : List (List Entry)) (p : Spot) → find test (row n (length s + 1)) ≡ None → (r : InStreams (n + 1) streams p) → (g i : ℕ) → IsSpot (s ∷ streams) (g, i) → IsBefore (g, i) (suc r.hart, p.1) → test (n + g, i) ≡ false
+      later_row : (n : ℕ) (s : List Entry) (streams : List (List Entry)) (p : Spot) → find test (row n (length s + 1)) ≡ None
+          → (r : InStreams (n + 1) streams p) → (g i : ℕ) → IsSpot (s ∷ streams) (g, i) → IsBefore (g, i) (suc r.hart, p.1) → test (n + g, i) ≡ false
       later_row n s streams p none r zero i spot b =
           let same : s ≡ spot.0 = same_Some _ _ spot.1 in
           let within : i < length s + 1 = subst (λ (z : List Entry). i < length z + 1) (sym same) spot.2 in
           let e' : n ≡ n + 0 = omega arith in
           subst (λ k. test (k, i) ≡ false) e' (none_in_row n (length s + 1) none i within)
-      later_row n s streams p none r (suc g) i spot (inl l) = let e' : (n + 1) + g ≡ n + suc g = omega arith in subst (λ k. test (k, i) ≡ false) e' (r.least g i spot (inl (omega (arith, l))))
-      later_row n s streams p none r (suc g) i spot (inr (same, l)) = let e' : (n + 1) + g ≡ n + suc g = omega arith in subst (λ k. test (k, i) ≡ false) e' (r.least g i spot (inr (omega (arith, same), l)))
+      later_row n s streams p none r (suc g) i spot (inl l) = let e' : (n + 1) + g ≡ n + suc g = omega arith in
+          subst (λ k. test (k, i) ≡ false) e' (r.least g i spot (inl (omega (arith, l))))
+      later_row n s streams p none r (suc g) i spot (inr (same, l)) = let e' : (n + 1) + g ≡ n + suc g = omega arith in
+          subst (λ k. test (k, i) ≡ false) e' (r.least g i spot (inr (omega (arith, same), l)))
 
 found_least : (log : Log) (test : Spot → Bool) (p : Spot) → find test (spots log) ≡ Some p → IsLeastSpot log.streams test p
 unfolding spots_from

@@ -1,7 +1,6 @@
 -- In a log that keeps O5, an entry of a page is the one that its number names.
-use Rattle.std.proofs.Common.{◌≡◌, ℕ, zero, suc, ◌+◌, ◌<◌, Bool, true, false, ◌||◌, cond, List, [], ◌∷◌, ◌++◌, map, flat_map, length, take, Option, Some, None, find, slice_get, refl, sym, ap, ◌∙◌, subst, arith, add-zero, zero-add, append_assoc, nat_le, count_by, is_some, unwrap_or, ◌==◌, if◌then◌else◌, true≢false}
-use Rattle.std.proofs.Common.{T}
-use lib.Dec.{eqb_refl}
+use Rattle.std.proofs.Common.{◌≡◌, ℕ, zero, suc, ◌+◌, ◌<◌, Bool, true, false, ◌||◌, cond, List, [], ◌∷◌, ◌++◌, map, flat_map, length, take, Option, Some, None, find, slice_get, refl, sym, ap, ◌∙◌, subst, arith, add-zero, zero-add, append_assoc, nat_le, count_by, is_some, unwrap_or, ◌==◌, if◌then◌else◌}
+use Rattle.std.proofs.lemmas.Bool.{eq-eqb, or_parts}
 use Rattle.std.specs.List.{list_any, enumerate_from}
 use Rattle.std.specs.Option.{option_or, option_and_then}
 use Rattle.std.proofs.lemmas.Option.{none-some, same_Some}
@@ -15,16 +14,8 @@ use Rattle.order_rules.specs.Orderly.{Keeps, o5}
 use Rattle.order_rules.specs.Laws.{IsSpot, NumbersName}
 use Rattle.order_rules.proofs.Least.{none_passes}
 
-is_true : (b : Bool) → T b → b ≡ true
-is_true true t = refl
-is_true false t = absurd t
-
-same_number : (n : ℕ) → (n == n) ≡ true
-same_number n = is_true (n == n) (eqb_refl n)
-
 pub neither_holds : (a b : Bool) → (a || b) ≡ false → (a ≡ false) × (b ≡ false)
-neither_holds true b e = absurd (true≢false e)
-neither_holds false b e = (refl, e)
+neither_holds = or_parts
 
 module _ (test : Entry → Bool) where
   abbrev pub of_hart : ℕ × Entry → Bool
@@ -33,28 +24,31 @@ module _ (test : Entry → Bool) where
   row : ℕ → List Entry → List (ℕ × Entry)
   row k s = map (λ e. (k, e)) s
 
-  found_in_row : (k : ℕ) (s : List Entry) (i : ℕ) (e : Entry) → slice_get s i ≡ Some e → list_any test (take i s) ≡ false → test e ≡ true → find of_hart (row k s) ≡ Some (k, e)
+  found_in_row : (k : ℕ) (s : List Entry) (i : ℕ) (e : Entry) → slice_get s i ≡ Some e → list_any test (take i s) ≡ false → test e ≡ true
+      → find of_hart (row k s) ≡ Some (k, e)
   unfolding row
   found_in_row k [] i e at none passes = absurd (none-some _ at)
   found_in_row k (x ∷ s) zero e at none passes =
       let same : x ≡ e = same_Some _ _ at in
-      subst (λ z. cond (test z) (Some (k, z)) (find of_hart (row k s)) ≡ Some (k, e)) (sym same) (ap (λ b. cond b (Some (k, e)) (find of_hart (row k s))) passes)
+      subst (λ z. cond (test z) (Some (k, z)) (find of_hart (row k s)) ≡ Some (k, e)) (sym same)
+      (ap (λ b. cond b (Some (k, e)) (find of_hart (row k s))) passes)
   found_in_row k (x ∷ s) (suc i) e at none passes =
-      let both = neither_holds (test x) (list_any test (take i s)) none in
+      let both = or_parts (test x) (list_any test (take i s)) none in
       ap (λ b. cond b (Some (k, x)) (find of_hart (row k s))) both.0 ∙ found_in_row k s i e at both.1 passes
 
   none_in_row : (k : ℕ) (s more : List Entry) → list_any test (s ++ more) ≡ false → (find of_hart (row k s) ≡ None) × (list_any test more ≡ false)
   unfolding row
   none_in_row k [] more none = (refl, none)
   none_in_row k (x ∷ s) more none =
-      let both = neither_holds (test x) (list_any test (s ++ more)) none in
+      let both = or_parts (test x) (list_any test (s ++ more)) none in
       let later = none_in_row k s more both.1 in
       (ap (λ b. cond b (Some (k, x)) (find of_hart (row k s))) both.0 ∙ later.0, later.1)
 
   abbrev pub rows_from : ℕ → List (List Entry) → List (ℕ × Entry)
   rows_from n streams = flat_map (λ s. map (λ e. (s.0, e)) s.1) (enumerate_from n streams)
 
-  rows-cons : (n : ℕ) (s : List Entry) (streams : List (List Entry)) → find of_hart (rows_from n (s ∷ streams)) ≡ option_or (find of_hart (row n s)) (find of_hart (rows_from (n + 1) streams))
+  rows-cons : (n : ℕ) (s : List Entry) (streams : List (List Entry))
+      → find of_hart (rows_from n (s ∷ streams)) ≡ option_or (find of_hart (row n s)) (find of_hart (rows_from (n + 1) streams))
   unfolding row
   rows-cons n s streams = find-append of_hart (row n s) (rows_from (n + 1) streams)
 
@@ -64,10 +58,12 @@ module _ (test : Entry → Bool) where
   found_from n [] h i s e there at none passes = absurd (none-some _ there)
   found_from n (x ∷ streams) zero i s e there at none passes =
       let same : x ≡ s = same_Some _ _ there in
-      let here : find of_hart (row n x) ≡ Some (n, e) = found_in_row n x i e (subst (λ z. slice_get z i ≡ Some e) (sym same) at) (subst (λ z. list_any test (take i z) ≡ false) (sym same) none) passes in
+      let here : find of_hart (row n x) ≡ Some (n, e) =
+      found_in_row n x i e (subst (λ z. slice_get z i ≡ Some e) (sym same) at) (subst (λ z. list_any test (take i z) ≡ false) (sym same) none) passes in
       rows-cons n x streams ∙ ap (λ o. option_or o (find of_hart (rows_from (n + 1) streams))) here ∙ ap (λ k. Some (k, e)) (sym (add-zero n))
   found_from n (x ∷ streams) (suc h) i s e there at none passes =
-      let regrouped : list_any test (x ++ (flat_map (λ z. z) (take h streams) ++ take i s)) ≡ false = ap (list_any test) (sym (append_assoc x (flat_map (λ z. z) (take h streams)) (take i s))) ∙ none in
+      let regrouped : list_any test (x ++ (flat_map (λ z. z) (take h streams) ++ take i s)) ≡ false =
+      ap (list_any test) (sym (append_assoc x (flat_map (λ z. z) (take h streams)) (take i s))) ∙ none in
       let both = none_in_row n x (flat_map (λ z. z) (take h streams) ++ take i s) regrouped in
       let later = found_from (n + 1) streams h i s e there at both.1 passes in
       let k : (n + 1) + h ≡ n + suc h = omega arith in
@@ -94,13 +90,18 @@ not_earlier log h i page k e kept at is =
     let right : o5 log (h, i) ≡ false = none_passes log (o5 log) (h, i) kept spot in
     let here : breaks_o5 log x ≡ false = sym (ap (λ o. is_some_and o (λ z. breaks_o5 log (record { hart = h; place = i; entry = z }))) at) ∙ right in
     let numbered_right : is_misnumbered (number_on page) log x ≡ false = sym (ap (λ o. is_some_and o (λ p. is_misnumbered (number_on p.0) log x)) is) ∙ here in
-    let number : number_on page e ≡ Some k = ap (option_and_then (λ z. if z.0 == page then Some z.1 else None)) is ∙ ap (λ b. if b then Some k else None) (same_number page) in
-    let open_up : (nat_le (count_by (λ z. is_some (number_on page z)) (entries log)) k || list_any (λ z. is_number k (number_on page z)) (earlier log x)) ≡ false =
-    sym (ap (λ o. is_some_and o (λ n. nat_le (count_by (λ z. is_some (number_on page z)) (entries log)) n || list_any (λ z. is_number n (number_on page z)) (earlier log x))) number) ∙ numbered_right in
-    (number, (neither_holds _ _ open_up).1)
+    let number : number_on page e ≡ Some k =
+    ap (option_and_then (λ z. if z.0 == page then Some z.1 else None)) is ∙ ap (λ b. if b then Some k else None) (eq-eqb page page refl) in
+    let open_up : (nat_le (count_by (λ z. is_some (number_on page z)) (entries log)) k || list_any (λ z. is_number k (number_on page z)) (earlier log x))
+    ≡ false =
+    sym (ap (λ o. is_some_and o
+    (λ n. nat_le (count_by (λ z. is_some (number_on page z)) (entries log)) n || list_any (λ z. is_number n (number_on page z)) (earlier log x))) number)
+    ∙ numbered_right in
+    (number, (or_parts _ _ open_up).1)
 
 pub numbers_name : NumbersName
 numbers_name log h i page k e kept at is =
     let found = not_earlier log h i page k e kept at is in
-    found_from (λ z. is_number k (number_on page z)) 0 log.streams h i (stream log h) e (in_stream log h i e at) at found.1 (ap (is_number k) found.0 ∙ same_number k)
+    found_from (λ z. is_number k (number_on page z)) 0 log.streams h i (stream log h) e (in_stream log h i e at) at found.1
+    (ap (is_number k) found.0 ∙ eq-eqb k k refl)
     ∙ ap (λ g. Some (g, e)) (zero-add h)

@@ -12,7 +12,8 @@ use Rattle.order_rules.specs.Cursor.{Cursor, start, take_one, least_left}
 
 pub record ReportsAreOne : Type 0 where
   pub none : (log : Log) (rule hart entry : ℕ) → IsOrderly log → IsLeastBreak log rule hart entry → ⊥
-  pub one : (log : Log) (rule hart entry rule' hart' entry' : ℕ) → IsLeastBreak log rule hart entry → IsLeastBreak log rule' hart' entry' → (rule ≡ rule') × (hart ≡ hart') × (entry ≡ entry')
+  pub one : (log : Log) (rule hart entry rule' hart' entry' : ℕ) → IsLeastBreak log rule hart entry → IsLeastBreak log rule' hart' entry'
+      → (rule ≡ rule') × (hart ≡ hart') × (entry ≡ entry')
 
 -- a spot of the log: of a hart that it has, at one of its entries or at the end of the stream
 abbrev pub IsSpot : List (List Entry) → Spot → Type 0
@@ -36,7 +37,8 @@ pub record FirstIsLeast : Type 0 where
 
 -- an entry of a page, in a log that keeps O5, is the one that its number names
 abbrev pub NumbersName : Type 0
-NumbersName = (log : Log) (h i page k : ℕ) (e : Entry) → Keeps log o5 → entry_at log h i ≡ Some e → page_number e ≡ Some (page, k) → numbered log page k ≡ Some (h, e)
+NumbersName =
+    (log : Log) (h i page k : ℕ) (e : Entry) → Keeps log o5 → entry_at log h i ≡ Some e → page_number e ≡ Some (page, k) → numbered log page k ≡ Some (h, e)
 
 -- before each number of a page no two harts hold it in conflict, in a log that keeps O6
 abbrev pub CrewBefore : Type 0
@@ -44,7 +46,9 @@ CrewBefore = (log : Log) (page k g h : ℕ) → Keeps log o6 → g ≢ h → con
 
 -- where some order takes all entries of a log with right numbers and ordinals, the least order does
 abbrev pub LeastTakesAll : Type 0
-LeastTakesAll = (log : Log) (xs : List (ℕ × ℕ)) (c : Cursor) → Keeps log o5 → Keeps log o8 → IsFull (take_one log) (start log) xs c → least_left log c ≡ None → LeastOrderLeaves log None
+LeastTakesAll =
+    (log : Log) (xs : List (ℕ × ℕ)) (c : Cursor) → Keeps log o5 → Keeps log o8 → IsFull (take_one log) (start log) xs c → least_left log c ≡ None
+    → LeastOrderLeaves log None
 
 -- each hart holds of each page what it holds in the log before the page's next number
 abbrev pub Follow : Log → Holders → List ℕ → Type 0
@@ -52,7 +56,8 @@ Follow log holders numbers = (page h : ℕ) → held holders page h ≡ rules.he
 
 -- where a hart takes the entry of a page with the page's next number, the holders still follow
 abbrev pub StillFollow : Type 0
-StillFollow = (log : Log) (holders : Holders) (numbers : List ℕ) (h i page k : ℕ) (e : Entry) → Keeps log o5 → entry_at log h i ≡ Some e → page_number e ≡ Some (page, k)
+StillFollow =
+    (log : Log) (holders : Holders) (numbers : List ℕ) (h i page k : ℕ) (e : Entry) → Keeps log o5 → entry_at log h i ≡ Some e → page_number e ≡ Some (page, k)
     → slice_get numbers page ≡ Some k → page < length holders → h < length (row holders page)
     → Follow log holders numbers → Follow log (with_held holders page h (holds_then e)) (slice_set numbers page (k + 1))
 
