@@ -5,13 +5,14 @@ use Rattle.rv_words.specs.declared.shared.Mode.TheVariants.{Read, Write}
 use Rattle.rv_words.specs.declared.shared.Input.{Input}
 use Rattle.rv_words.specs.declared.shared.Input.TheVariants.{Time}
 use Rattle.rv_words.specs.Modes.{conflicts}
+use Rattle.rv_words.specs.Limits.{page_bytes}
 use Rattle.log_entry.specs.declared.log.Entry.{Entry}
 use Rattle.log_entry.specs.declared.log.Entry.TheVariants.{Gain, Yield, Poll, Touch, End}
 use Rattle.log_entry.specs.declared.log.Log.{Log}
 
 -- the bytes of a page, as entries number pages
 abbrev pub unit_of : Log → ℕ
-unit_of log = 4096
+unit_of log = page_bytes
 
 -- how many such pages the memory has
 abbrev pub units_of : Log → ℕ

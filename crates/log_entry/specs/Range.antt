@@ -3,6 +3,7 @@ use Rattle.std.specs.Prelude.{ℕ, ◌&&◌, ◌^◌, nat_lt, nat_le, Bool, true
 use Rattle.std.specs.List.{list_all}
 use Rattle.rv_words.specs.declared.shared.Mode.{Mode}
 use Rattle.rv_words.specs.declared.shared.Mode.TheVariants.{Read, Write}
+use Rattle.rv_words.specs.Limits.{most_pages}
 use Rattle.log_entry.specs.declared.waits.WaitFor.{WaitFor}
 use Rattle.log_entry.specs.declared.log.Entry.{Entry}
 use Rattle.log_entry.specs.declared.log.Entry.TheVariants.{Gain, Yield, Poll, Touch, End}
@@ -31,10 +32,10 @@ is_entry harts units (End count) = true
 abbrev pub is_stream : ℕ → ℕ → List Entry → Bool
 is_stream harts units stream = nat_lt (length stream) (2 ^ 32) && list_all (is_entry harts units) stream
 
--- one to eight harts, 1 to 4,096 pages, a limit of at most 10^12, and each stream in range
+-- one to eight harts, 1 to `most_pages` pages, a limit of at most 10^12, and each stream in range
 abbrev pub in_range : Log → Bool
 in_range log =
     nat_le 1 (length log.streams) && nat_le (length log.streams) 8
-    && nat_le 1 log.pages && nat_le log.pages 4096
+    && nat_le 1 log.pages && nat_le log.pages most_pages
     && nat_le log.limit 1000000000000
     && list_all (is_stream (length log.streams) (units_of log)) log.streams

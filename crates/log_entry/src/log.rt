@@ -3,7 +3,7 @@ ghost use Rattle.std.specs.Prelude.{◌≡◌};
 ghost use Rattle.log_entry.specs.Parts.{unit_of};
 
 use crate::waits::Waits;
-use rv_words::{Cause, Input, Mode};
+use rv_words::{Cause, Input, Mode, PAGE_BYTES};
 use shared_types::Listed;
 
 /// What one hart did at a count of its moves, beside the moves themselves.
@@ -53,7 +53,7 @@ pub type Streams = Listed<Entries>;
 /// and why the run ended.
 #[derive(Debug, Drop)]
 pub struct Log {
-    /// The memory, in pieces of 4,096 bytes.
+    /// The memory, in pages of `PAGE_BYTES` bytes.
     pub pages: u16,
     /// The most moves that a hart makes.
     pub limit: u64,
@@ -68,6 +68,6 @@ impl Log {
     pub fn unit(&self) -> u16
         ensures { result ≡ unit_of self.now }
     {
-        4096
+        PAGE_BYTES
     }
 }

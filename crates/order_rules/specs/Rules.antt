@@ -4,6 +4,7 @@ use Rattle.std.specs.List.{list_any, list_all}
 use Rattle.std.specs.Option.{option_map_or}
 use lib.Pointwise.{pointwise}
 use Rattle.rv_words.specs.declared.shared.Mode.{Mode}
+use Rattle.rv_words.specs.Limits.{poll_distance}
 use Rattle.log_entry.specs.declared.waits.WaitFor.{WaitFor}
 use Rattle.log_entry.specs.declared.log.Entry.{Entry}
 use Rattle.log_entry.specs.declared.log.Entry.TheVariants.{Gain, Yield}
@@ -29,9 +30,9 @@ lacks_end log h i = (i == length (stream log h)) && not (is_some_and (last_of (s
 abbrev pub breaks_o2 : Log → Placed → Bool
 breaks_o2 log x = list_any (λ e. (count_of e == count_of x.entry) && (is_touch e || is_end e || is_poll x.entry)) (before log x)
 
--- the multiples of 4,096 below a count
+-- the multiples of `poll_distance` below a count
 abbrev pub polls_due : ℕ → List ℕ
-polls_due count = map (λ k. k * 4096) (below ((count + 4095) / 4096))
+polls_due count = map (λ k. k * poll_distance) (below ((count + (poll_distance - 1)) / poll_distance))
 
 -- the count of the stream's last entry, which is its End
 abbrev pub end_count : List Entry → ℕ
@@ -40,15 +41,15 @@ end_count s = option_map_or count_of (last_of s) 0
 abbrev pub has_poll : List Entry → ℕ → Bool
 has_poll s count = list_any (λ e. is_poll e && (count_of e == count)) s
 
--- a Poll may stand at each multiple of 4,096 below the End's count, and at the End's own count below the limit
+-- a Poll may stand at each multiple of `poll_distance` below the End's count, and at the End's own count below the limit
 abbrev pub may_poll : Log → ℕ → ℕ → Bool
-may_poll log end count = (count % 4096 == 0) && (nat_lt count end || ((count == end) && nat_lt count log.limit))
+may_poll log end count = (count % poll_distance == 0) && (nat_lt count end || ((count == end) && nat_lt count log.limit))
 
 -- the first entry of its stream with a count above this one
 abbrev pub is_first_above : Log → Placed → ℕ → Bool
 is_first_above log x count = nat_lt count (count_of x.entry) && list_all (λ e. nat_le (count_of e) count) (before log x)
 
--- O3. Each multiple of 4,096 below the End's count has one Poll, and a Poll stands nowhere else but where it may.
+-- O3. Each multiple of `poll_distance` below the End's count has one Poll, and a Poll stands nowhere else but where it may.
 abbrev pub breaks_o3 : Log → Placed → Bool
 breaks_o3 log x =
     let s = stream log x.hart in

@@ -4,6 +4,7 @@ use Rattle.rv_words.specs.declared.shared.Mode.{Mode}
 use Rattle.rv_words.specs.declared.shared.Mode.TheVariants.{Read, Write}
 use Rattle.rv_words.specs.declared.shared.Input.{Input}
 use Rattle.rv_words.specs.declared.shared.Input.TheVariants.{Nothing, Time}
+use Rattle.rv_words.specs.Limits.{poll_distance}
 use Rattle.orders_law.specs.Orders.{below}
 use Rattle.rv_words.specs.declared.shared.Cause.{Cause}
 use Rattle.rv_words.specs.declared.shared.Cause.TheVariants.{Stop, Limit, Full}
@@ -86,9 +87,9 @@ gained_again own other = log_of 1 9 Limit (
     ∷ (poll 0 2 5 ∷ gain 0 0 5 Read other ∷ End 9 ∷ [])
     ∷ [])
 
--- Polls at so many multiples of 4,096, and End at the next one
+-- Polls at the first so many multiples of `poll_distance`
 abbrev pub polls : ℕ → List Entry
-polls n = map (λ k. poll (k * 4096) k 5) (below n)
+polls n = map (λ k. poll (k * poll_distance) k 5) (below n)
 
 abbrev pub full_log : Log
 full_log = log_of 1 1000000 Full ((poll 0 0 5 ∷ gain 0 0 0 Read [] ∷ drop 1 (polls 42) ++ End 172032 ∷ []) ∷ [])
