@@ -15,7 +15,8 @@ use Rattle.flat_machine.specs.declared.act.Act.TheVariants.{Run, Touch, Poll, Lo
 use Rattle.replay_model.specs.Board.{board}
 use Rattle.replay_model.specs.Flat.{Flat}
 use Rattle.replay_model.specs.State.{Replay}
-use Rattle.replay_model.specs.Items.{Item, Ended, Move, Makes, Verdict, HasEnded, Holds, CanGo, HasDiverged, verdict_on, made, acted, effect, past, holds, told_of, goes, ends_reservation, next_item, step}
+use Rattle.replay_model.specs.Items.{Item, Ended, Move, Makes, Verdict, HasEnded, Holds, CanGo, HasDiverged, verdict_on, made, acted, effect, past}
+use Rattle.replay_model.specs.Items.{holds, told_of, goes, ends_reservation, next_item, step}
 use Rattle.replay_model.specs.Acts.{acts_of_item, acts_of, run_along}
 use Rattle.replay_model.specs.Laws.{OrdersDrive}
 
@@ -27,7 +28,8 @@ then_same : {A B : Type 0} (f g : A → Option B) → ((a : A) → f a ≡ g a) 
 then_same f g same None = refl
 then_same f g same (Some a) = same a
 
-then_then : {A B C : Type 0} (f : A → Option B) (g : B → Option C) (o : Option A) → option_and_then g (option_and_then f o) ≡ option_and_then (λ a. option_and_then g (f a)) o
+then_then : {A B C : Type 0} (f : A → Option B) (g : B → Option C) (o : Option A)
+    → option_and_then g (option_and_then f o) ≡ option_and_then (λ a. option_and_then g (f a)) o
 then_then f g None = refl
 then_then f g (Some a) = refl
 
@@ -35,7 +37,8 @@ module _ {S V : Type 0} (flat : Flat S V) where
   along : (s : S) (xs ys : List Act) → run_along flat s (xs ++ ys) ≡ option_and_then (λ t. run_along flat t ys) (run_along flat s xs)
   along s [] ys = refl
   along s (act ∷ xs) ys =
-      then_same (λ t. run_along flat t (xs ++ ys)) (λ t. option_and_then (λ u. run_along flat u ys) (run_along flat t xs)) (λ t. along t xs ys) (flat.next s act)
+      then_same (λ t. run_along flat t (xs ++ ys)) (λ t. option_and_then (λ u. run_along flat u ys) (run_along flat t xs)) (λ t. along t xs ys)
+      (flat.next s act)
       ∙ sym (then_then (λ t. run_along flat t xs) (λ u. run_along flat u ys) (flat.next s act))
 
   one_act : (s m : Replay S) (act : Act) → acted flat s act ≡ Some m → run_along flat s.flat (act ∷ []) ≡ Some m.flat
@@ -43,7 +46,8 @@ module _ {S V : Type 0} (flat : Flat S V) where
       let a = mapped (λ (f : S). record s { flat = f }) (flat.next s.flat act) m e in
       ap (option_and_then (λ t. Some t)) a.1 ∙ ap (λ (x : Replay S). Some x.flat) a.2
 
-  yields : (s m : Replay S) (h page : ℕ) (left : Option Mode) (b : Bool) → option_map (holds flat page h left) (if b then acted flat s (Lose h) else Some s) ≡ Some m → run_along flat s.flat (if b then Lose h ∷ [] else []) ≡ Some m.flat
+  yields : (s m : Replay S) (h page : ℕ) (left : Option Mode) (b : Bool) → option_map (holds flat page h left) (if b then acted flat s (Lose h) else Some s)
+      ≡ Some m → run_along flat s.flat (if b then Lose h ∷ [] else []) ≡ Some m.flat
   yields s m h page left true e =
       let a = mapped (holds flat page h left) (acted flat s (Lose h)) m e in
       one_act s a.0 (Lose h) a.1 ∙ ap (λ (x : Replay S). Some x.flat) a.2
@@ -71,14 +75,17 @@ module _ {S V : Type 0} (flat : Flat S V) where
   went s m h item Holds w is = absurd (none-some _ is)
   went s m h item (HasDiverged rule) w is = absurd (none-some _ is)
 
-  pub leads_along : (log : Log) (s t : Replay S) (made : List (ℕ × Option V)) → Leads (step flat log) s made t → run_along flat s.flat (acts_of flat log s (map (λ m. m.0) made)) ≡ Some t.flat
+  pub leads_along : (log : Log) (s t : Replay S) (made : List (ℕ × Option V)) → Leads (step flat log) s made t
+      → run_along flat s.flat (acts_of flat log s (map (λ m. m.0) made)) ≡ Some t.flat
   leads_along log s t [] is = ap (λ (x : Replay S). Some x.flat) is
   leads_along log s t (x ∷ made) is =
       let order = map (λ (m : ℕ × Option V). m.0) made in
       let acts = acts_of_item flat s x.0 (next_item flat log s x.0) in
       ap (λ o. run_along flat s.flat (option_map_or (λ (m : Replay S × Option V). acts ++ acts_of flat log m.0 order) o [])) is.1
       ∙ along s.flat acts (acts_of flat log is.0 order)
-      ∙ ap (option_and_then (λ u. run_along flat u (acts_of flat log is.0 order))) (one_item s is.0 x.0 (next_item flat log s x.0) (went s is.0 x.0 (next_item flat log s x.0) (verdict_on flat s x.0 (next_item flat log s x.0)) x.1 is.1))
+      ∙ ap (option_and_then (λ u. run_along flat u (acts_of flat log is.0 order)))
+      (one_item s is.0 x.0 (next_item flat log s x.0) (went s is.0 x.0 (next_item flat log s x.0)
+      (verdict_on flat s x.0 (next_item flat log s x.0)) x.1 is.1))
       ∙ leads_along log is.0 t made is.2
 
 pub board_runs : (unit : ℕ) (s : FlatState) (acts : List Act) → run_from s acts ≡ run_along (board unit) s acts

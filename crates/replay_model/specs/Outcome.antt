@@ -60,4 +60,6 @@ module _ {S V : Type 0} (flat : Flat S V) (log : Log) where
 
   -- the state after the least order comes to this outcome
   abbrev pub IsOutcome : S → Outcome S → Type 0
-  IsOutcome first outcome = (made : List (ℕ × Option V)) × ((end : Replay S) × IsLeast (step flat log) (length log.streams) (start log first) made end × (outcome_at end ≡ Some outcome))
+  IsOutcome first outcome =
+      (made : List (ℕ × Option V)) × ((end : Replay S) × IsLeast (step flat log) (length log.streams) (start log first) made end
+      × (outcome_at end ≡ Some outcome))

@@ -1,5 +1,6 @@
 -- Replays that were worked out by hand, on machines whose harts do what a script says.
-use Rattle.std.specs.Prelude.{ℕ, zero, suc, ◌==◌, ◌+◌, ◌||◌, not, nat_lt, Bool, true, false, List, [], ◌∷◌, length, replicate, slice_index, slice_set, Option, Some, None, if◌then◌else◌}
+use Rattle.std.specs.Prelude.{ℕ, zero, suc, ◌==◌, ◌+◌, ◌||◌, not, nat_lt, Bool, true, false, List, [], ◌∷◌, length, replicate, slice_index, slice_set}
+use Rattle.std.specs.Prelude.{Option, Some, None, if◌then◌else◌}
 use Rattle.rv_words.specs.declared.shared.Mode.{Mode}
 use Rattle.rv_words.specs.declared.shared.Mode.TheVariants.{Read, Write}
 use Rattle.rv_words.specs.declared.shared.Input.{Input}
@@ -93,9 +94,39 @@ ended counts stopped time = record { counts = counts; stopped = stopped; time = 
 abbrev pub race_journal : List (ℕ × ℕ)
 race_journal = (0, 2) ∷ (1, 2) ∷ (0, 2) ∷ (1, 2) ∷ (0, 2) ∷ (1, 3) ∷ (0, 1) ∷ (0, 6) ∷ (1, 1) ∷ (1, 5) ∷ []
 
+-- a hart that stops and then has a Poll with a line that isn't set
+abbrev pub late_poll_log : Log
+late_poll_log = log_of 1 100 Stop ((e.Poll 0 0 5 0 ∷ gain 0 0 0 Read [] ∷ e.Touch 2 1 Nothing ∷ e.Poll 3 2 5 1 ∷ e.End 4 ∷ []) ∷ [])
+
+-- two harts: one never gains its page, the other has a Touch where its move isn't at a device
+abbrev pub twice_diverged_log : Log
+twice_diverged_log = log_of 1 100 Stop ((e.Poll 0 0 5 0 ∷ e.End 5 ∷ []) ∷ (e.Poll 0 1 5 0 ∷ gain 0 0 0 Read [] ∷ e.Touch 1 2 Nothing ∷ e.End 3 ∷ []) ∷ [])
+
+-- a machine with a reservation in page 1, whose time is 99 once one is lost
+abbrev pub reserving : Flat Scripted ℕ
+reserving = record (scripted code_page never) { next = next; reserved_page = λ s h. Some 1 } where
+  next : Scripted → Act → Option Scripted
+  next s (Lose h) = Some (record s { time = 99 })
+  next s act = (scripted code_page never).next s act
+
+-- a hart that gives up page 1 from Write
+abbrev pub losing_log : Log
+losing_log = log_of 3 1 Limit ((e.Poll 0 0 5 0 ∷ gain 0 0 0 Read [] ∷ gain 0 1 0 Write [] ∷ e.Yield 1 1 1 (Some Read) ∷ e.End 1 ∷ []) ∷ [])
+
+-- and one that gives it up from Read, and another page from Write
+abbrev pub keeping_log : Log
+keeping_log =
+    log_of 3 1 Limit (
+    (e.Poll 0 0 5 0 ∷ gain 0 0 0 Read [] ∷ gain 0 1 0 Read [] ∷ gain 0 2 0 Write [] ∷ e.Yield 1 1 1 None ∷ e.Yield 1 2 1 None ∷ e.End 1 ∷ [])
+    ∷ [])
+
 -- a hart that loads three console inputs, sends a byte, and then stores to STOP
 abbrev pub echo_log : Log
-echo_log = log_of 1 100 Stop ((e.Poll 0 0 5 0 ∷ gain 0 0 0 Read [] ∷ e.Touch 1 1 Empty ∷ e.Touch 2 2 (Byte 65) ∷ e.Touch 3 3 Empty ∷ e.Touch 4 4 Nothing ∷ e.Touch 5 5 Nothing ∷ e.End 6 ∷ []) ∷ [])
+echo_log =
+    log_of 1 100 Stop (
+    (e.Poll 0 0 5 0 ∷ gain 0 0 0 Read [] ∷ e.Touch 1 1 Empty ∷ e.Touch 2 2 (Byte 65) ∷ e.Touch 3 3 Empty ∷ e.Touch 4 4 Nothing ∷ e.Touch 5 5 Nothing
+    ∷ e.End 6 ∷ [])
+    ∷ [])
 
 -- a machine that has sent the byte 65 once hart 0 has made five moves
 abbrev pub echoing : Flat Scripted ℕ
@@ -112,6 +143,10 @@ pub record AreReplayed : Type 0 where
   pub later_time : IsOutcome stopping (stop_log Stop 6 0 0 Read 2 Nothing 3) (first 1) (Done (ended (3 ∷ []) true 6))
   pub more_held : IsOutcome stopping (stop_log Stop 5 0 0 Write 2 Nothing 3) (first 1) (Done (ended (3 ∷ []) true 5))
   pub later_end : IsOutcome stopping (stop_log Stop 5 0 0 Read 2 Nothing 4) (first 1) (Done (ended (4 ∷ []) true 5))
+  pub lines_before_stop : IsOutcome stopping late_poll_log (first 1) (Diverged 0 3 5 (ended (3 ∷ []) true 5))
+  pub least_of_two : IsOutcome stopping twice_diverged_log (first 2) (Diverged 0 0 1 (ended (0 ∷ 1 ∷ []) false 5))
+  pub reservation_lost : IsOutcome reserving losing_log (first 1) (Done (ended (1 ∷ []) false 99))
+  pub reservation_kept : IsOutcome reserving keeping_log (first 1) (Done (ended (1 ∷ []) false 5))
   pub race : IsOutcome racing race_log (first 2) (Done (ended (8 ∷ 8 ∷ []) false 5))
   pub journal : (t : Replay Scripted) × IsFullOrder racing race_log (start race_log (first 2)) (order_of race_journal) t
   pub lean : IsLean racing race_log (start race_log (first 2)) (order_of race_journal)
