@@ -1,10 +1,11 @@
 //! A hart, and its moves.
 
-ghost use Rattle.std.specs.Prelude.{ℕ, ◌≡◌, ◌+◌, ◌*◌, ◌<◌, ◌%◌, ◌^◌};
+ghost use Rattle.std.specs.Prelude.{ℕ, ◌≡◌, ◌+◌, ◌*◌, ◌<◌, ◌%◌, ◌^◌, IfSome, true};
 ghost use Rattle.rv_hart.specs.Values.{load_size, store_size};
 ghost use Rattle.rv_hart.specs.Effects.{reg, address, upper_effect, jump, branch_effect, is_device, load_effect, store_effect, atomic_effect, is_reserved, conditional_effect, csr_operand, csr_effect, instr_effect, effect_of, fetch_of, entry_effect};
-ghost use Rattle.rv_hart.specs.Moves.{hart_at_start, with_reg, retired, gone_on, with_reserved, after_csr_write, trapped, after, written, need_of, trap_of};
-ghost use Rattle.rv_hart.specs.Places.{FetchesInMemory, NeedIsThere, WritesInMemory, SameBoard, IsSound, IsSoundAt};
+ghost use Rattle.rv_hart.specs.Moves.{hart_at_start, with_reg, retired, gone_on, with_reserved, with_csrs, after_csr_write, trapped, after, written, need_of, trap_of};
+ghost use Rattle.rv_hart.specs.Bursts.{is_quiet, fetch_place, with_counted};
+ghost use Rattle.rv_hart.specs.Places.{WordInMemory, FetchesInMemory, NeedIsThere, WritesInMemory, SameBoard, IsSound, IsSoundAt};
 ghost use Rattle.rv_hart.specs.State;
 ghost use Rattle.rv_decode.specs.Fits.{Fits};
 ghost use Rattle.rv_csr.specs.Registers.{csr_read};
@@ -15,7 +16,7 @@ use crate::values::{
     amo_value, branch_taken, csr_value, does_write, imm_value, load_size, loaded_value, reg_value,
     shift_value, store_size, takes_register,
 };
-use rv_csr::Csrs;
+use rv_csr::{Csrs, causes};
 use rv_decode::{BranchOp, CsrOp, Instr, LoadOp, StoreOp, UpperOp};
 use rv_words::Access;
 use std::marker::Model;
@@ -120,6 +121,26 @@ impl Hart {
         }
     }
 
+    /// Where the next move fetches from while no interrupt is pending.
+    pub fn fetch_place(&self) -> Option<u32>
+        ensures place { result ≡ fetch_place self.now }
+        ensures inside { IfSome result (WordInMemory self.now.pages) }
+    {
+        if rv_words::in_memory(self.pc, self.pages) {
+            Some(self.pc)
+        } else {
+            None
+        }
+    }
+
+    /// Counts so many moves that were made uncounted.
+    pub fn count_moves(&mut self, moves: u64)
+        requires { 0 < moves }
+        ensures { self.new ≡ with_counted moves self.old }
+    {
+        self.csrs.count_moves(moves);
+    }
+
     /// The move where nothing is fetched: the pending interrupt, else the fetch fault.
     pub fn enter(&mut self)
         ensures after { self.new ≡ after self.old (entry_effect self.old) 0 }
@@ -127,7 +148,7 @@ impl Hart {
     {
         match self.csrs.pending() {
             Some(cause) => self.trap(cause, 0),
-            None => self.trap(1, self.pc),
+            None => self.trap(causes::FETCH_FAULT, self.pc),
         }
     }
 
@@ -140,10 +161,7 @@ impl Hart {
     {
         match rv_decode::decode(word) {
             Some(i) => self.instr_effect(i, word),
-            None => Effect::Traps {
-                cause: 2,
-                value: word,
-            },
+            None => traps(causes::ILLEGAL_INSTRUCTION, word),
         }
     }
 
@@ -177,6 +195,7 @@ impl Hart {
 
     /// Makes the move of an effect that this hart gave, with what it loaded as for `finish`.
     #[inline(always)]
+    #[tactic(auto, using(crate::proofs::Bursts::after_counted))]
     pub fn make(&mut self, effect: Effect, loaded: u32) -> Wrote
         requires { IsSound self.old effect }
         ensures after { self.new ≡ after self.old effect loaded }
@@ -185,28 +204,50 @@ impl Hart {
         ensures board { SameBoard self.old self.new }
     {
         match effect {
+            Effect::WritesCsr {
+                rd,
+                old,
+                number,
+                value,
+            } => self.write_csr(rd, old, number, value),
+            Effect::Returns => self.leave(),
+            Effect::Traps { cause, value } => self.trap(cause, value),
+            _ => {
+                let wrote = self.make_uncounted(effect, loaded);
+                self.csrs.count_move(true, None);
+                return wrote;
+            }
+        }
+        Wrote::Nothing
+    }
+
+    /// Makes the move of an effect that changes no control register but the counters, and leaves these.
+    #[inline(always)]
+    pub fn make_uncounted(&mut self, effect: Effect, loaded: u32) -> Wrote
+        requires sound { IsSound self.old effect }
+        requires quiet { is_quiet effect ≡ true }
+        ensures after { self.new ≡ with_csrs self.old.csrs (after self.old effect loaded) }
+        ensures written { result ≡ written effect loaded }
+        ensures inside { WritesInMemory self.old.pages result }
+        ensures board { SameBoard self.old self.new }
+    {
+        match effect {
             Effect::Sets { rd, value } => self.go_on(rd, value),
             Effect::Jumps { rd, target } => {
-                self.retire(rd, self.pc.wrapping_add(4), target);
+                self.set_reg(rd, self.pc.wrapping_add(4));
+                self.pc = target;
             }
             Effect::Loads { op, rd, at } => self.go_on(rd, loaded_value(op, at, loaded)),
             Effect::Stores { at, size, value } => {
                 self.go_on(0, 0);
                 return Wrote::Bytes { at, size, value };
             }
-            Effect::Reserves { rd, at } => {
-                self.go_on(rd, loaded);
-                self.reserved = Some(at);
-            }
+            Effect::Reserves { rd, at } => self.go_on_reserved(rd, loaded, Some(at)),
             Effect::Commits { rd, at, value } => {
-                self.go_on(rd, 0);
-                self.reserved = None;
+                self.go_on_reserved(rd, 0, None);
                 return Wrote::Bytes { at, size: 4, value };
             }
-            Effect::Fails { rd, .. } => {
-                self.go_on(rd, 1);
-                self.reserved = None;
-            }
+            Effect::Fails { rd, .. } => self.go_on_reserved(rd, 1, None),
             Effect::Updates {
                 op,
                 rd,
@@ -219,14 +260,7 @@ impl Hart {
             }
             Effect::DeviceLoads { rd, .. } => self.go_on(rd, loaded),
             Effect::DeviceStores { .. } => self.go_on(0, 0),
-            Effect::WritesCsr {
-                rd,
-                old,
-                number,
-                value,
-            } => self.write_csr(rd, old, number, value),
-            Effect::Returns => self.leave(),
-            Effect::Traps { cause, value } => self.trap(cause, value),
+            Effect::WritesCsr { .. } | Effect::Returns | Effect::Traps { .. } => unreachable!(),
         }
         Wrote::Nothing
     }
@@ -241,21 +275,20 @@ impl Hart {
         }
     }
 
-    fn retire(&mut self, rd: u8, value: u32, pc: u32)
-        requires register { rd < 32 }
-        requires target { pc % 4 ≡ 0 }
-        ensures { self.new ≡ retired self.old rd value pc }
-    {
-        self.set_reg(rd, value);
-        self.csrs.count_move(true, None);
-        self.pc = pc;
-    }
-
     fn go_on(&mut self, rd: u8, value: u32)
         requires { rd < 32 }
-        ensures { self.new ≡ gone_on self.old rd value }
+        ensures { self.new ≡ with_csrs self.old.csrs (gone_on self.old rd value) }
     {
-        self.retire(rd, value, self.pc.wrapping_add(4));
+        self.set_reg(rd, value);
+        self.pc = self.pc.wrapping_add(4);
+    }
+
+    fn go_on_reserved(&mut self, rd: u8, value: u32, reserved: Option<u32>)
+        requires { rd < 32 }
+        ensures { self.new ≡ with_csrs self.old.csrs (with_reserved reserved (gone_on self.old rd value)) }
+    {
+        self.go_on(rd, value);
+        self.reserved = reserved;
     }
 
     fn trap(&mut self, cause: u32, value: u32)
@@ -288,11 +321,8 @@ impl Hart {
         ensures sound { IsSound self.now result }
     {
         match op {
-            UpperOp::Lui => Effect::Sets { rd, value: imm },
-            UpperOp::Auipc => Effect::Sets {
-                rd,
-                value: self.pc.wrapping_add(imm),
-            },
+            UpperOp::Lui => sets(rd, imm),
+            UpperOp::Auipc => sets(rd, self.pc.wrapping_add(imm)),
         }
     }
 
@@ -329,19 +359,13 @@ impl Hart {
     {
         let size = load_size(op);
         if at % size != 0 {
-            Effect::Traps {
-                cause: 4,
-                value: at,
-            }
+            traps(causes::MISALIGNED_LOAD, at)
         } else if rv_words::in_memory(at, self.pages) {
             Effect::Loads { op, rd, at }
         } else if size == 4 && self.is_device(at) {
             Effect::DeviceLoads { rd, at }
         } else {
-            Effect::Traps {
-                cause: 5,
-                value: at,
-            }
+            traps(causes::LOAD_FAULT, at)
         }
     }
 
@@ -351,19 +375,13 @@ impl Hart {
     {
         let size = store_size(op);
         if at % u32::from(size) != 0 {
-            Effect::Traps {
-                cause: 6,
-                value: at,
-            }
+            traps(causes::MISALIGNED_STORE, at)
         } else if rv_words::in_memory(at, self.pages) {
             Effect::Stores { at, size, value }
         } else if size == 4 && self.is_device(at) {
             Effect::DeviceStores { at, value }
         } else {
-            Effect::Traps {
-                cause: 7,
-                value: at,
-            }
+            traps(causes::STORE_FAULT, at)
         }
     }
 
@@ -374,17 +392,11 @@ impl Hart {
         ensures sound { IsSound self.now result }
     {
         if at % 4 != 0 {
-            Effect::Traps {
-                cause: misaligned,
-                value: at,
-            }
+            traps(misaligned, at)
         } else if rv_words::in_memory(at, self.pages) {
             effect
         } else {
-            Effect::Traps {
-                cause: misaligned + 1,
-                value: at,
-            }
+            traps(misaligned + 1, at)
         }
     }
 
@@ -418,17 +430,11 @@ impl Hart {
         ensures sound { IsSound self.now result }
     {
         match self.csrs.read(number) {
-            None => Effect::Traps {
-                cause: 2,
-                value: word,
-            },
+            None => traps(causes::ILLEGAL_INSTRUCTION, word),
             Some(old) => if !does_write(op, rs1) {
-                Effect::Sets { rd, value: old }
+                sets(rd, old)
             } else if rv_csr::is_read_only(number) {
-                Effect::Traps {
-                    cause: 2,
-                    value: word,
-                }
+                traps(causes::ILLEGAL_INSTRUCTION, word)
             } else {
                 let operand = self.csr_operand(op, rs1);
                 Effect::WritesCsr {
@@ -441,9 +447,11 @@ impl Hart {
         }
     }
 
+    /// What the move of an instruction does, which the word stands for.
     #[inline(always)]
     #[tactic(auto, unfolding(crate::specs::Effects::instr_effect))]
-    fn instr_effect(&self, i: Instr, word: u32) -> Effect
+    #[rattlefmt::skip]
+    pub fn instr_effect(&self, i: Instr, word: u32) -> Effect
         requires { Fits i }
         ensures effect { result ≡ instr_effect self.now i word }
         ensures sound { IsSound self.now result }
@@ -452,84 +460,28 @@ impl Hart {
             Instr::Upper { op, rd, imm } => self.upper_effect(op, rd, imm),
             Instr::Jal { rd, offset } => jump(rd, self.pc.wrapping_add_signed(offset)),
             Instr::Jalr { rd, rs1, offset } => jump(rd, self.address(rs1, offset) / 2 * 2),
-            Instr::Branch {
-                op,
-                rs1,
-                rs2,
-                offset,
-            } => self.branch_effect(op, rs1, rs2, offset),
-            Instr::Load {
-                op,
-                rd,
-                rs1,
-                offset,
-            } => self.load_effect(op, rd, self.address(rs1, offset)),
-            Instr::Store {
-                op,
-                rs1,
-                rs2,
-                offset,
-            } => self.store_effect(op, self.address(rs1, offset), self.reg(rs2)),
-            Instr::Imm { op, rd, rs1, imm } => Effect::Sets {
-                rd,
-                value: imm_value(op, self.reg(rs1), imm.cast_unsigned()),
-            },
-            Instr::Shift {
-                op,
-                rd,
-                rs1,
-                amount,
-            } => Effect::Sets {
-                rd,
-                value: shift_value(op, self.reg(rs1), u32::from(amount)),
-            },
-            Instr::Reg { op, rd, rs1, rs2 } => Effect::Sets {
-                rd,
-                value: reg_value(op, self.reg(rs1), self.reg(rs2)),
-            },
+            Instr::Branch { op, rs1, rs2, offset } => self.branch_effect(op, rs1, rs2, offset),
+            Instr::Load { op, rd, rs1, offset } => self.load_effect(op, rd, self.address(rs1, offset)),
+            Instr::Store { op, rs1, rs2, offset } => self.store_effect(op, self.address(rs1, offset), self.reg(rs2)),
+            Instr::Imm { op, rd, rs1, imm } => sets(rd, imm_value(op, self.reg(rs1), imm.cast_unsigned())),
+            Instr::Shift { op, rd, rs1, amount } => sets(rd, shift_value(op, self.reg(rs1), u32::from(amount))),
+            Instr::Reg { op, rd, rs1, rs2 } => sets(rd, reg_value(op, self.reg(rs1), self.reg(rs2))),
             Instr::Fence { .. } | Instr::FenceI { .. } | Instr::Wfi => NOTHING,
-            Instr::Ecall => Effect::Traps {
-                cause: 11,
-                value: 0,
-            },
-            Instr::Ebreak => Effect::Traps {
-                cause: 3,
-                value: self.pc,
-            },
+            Instr::Ecall => traps(causes::ENVIRONMENT_CALL, 0),
+            Instr::Ebreak => traps(causes::BREAKPOINT, self.pc),
             Instr::Mret => Effect::Returns,
-            Instr::Csr {
-                op,
-                rd,
-                rs1,
-                number,
-            } => self.csr_effect(op, rd, rs1, number, word),
+            Instr::Csr { op, rd, rs1, number } => self.csr_effect(op, rd, rs1, number, word),
             Instr::LoadReserved { rd, rs1, .. } => {
                 let at = self.reg(rs1);
-                self.atomic_effect(4, at, Effect::Reserves { rd, at })
+                self.atomic_effect(causes::MISALIGNED_LOAD, at, Effect::Reserves { rd, at })
             }
             Instr::StoreConditional { rd, rs1, rs2, .. } => {
                 let at = self.reg(rs1);
-                self.atomic_effect(6, at, self.conditional_effect(rd, at, self.reg(rs2)))
+                self.atomic_effect(causes::MISALIGNED_STORE, at, self.conditional_effect(rd, at, self.reg(rs2)))
             }
-            Instr::Amo {
-                op,
-                rd,
-                rs1,
-                rs2,
-                ..
-            } => {
+            Instr::Amo { op, rd, rs1, rs2, .. } => {
                 let at = self.reg(rs1);
-                let operand = self.reg(rs2);
-                self.atomic_effect(
-                    6,
-                    at,
-                    Effect::Updates {
-                        op,
-                        rd,
-                        at,
-                        operand,
-                    },
-                )
+                self.atomic_effect(causes::MISALIGNED_STORE, at, Effect::Updates { op, rd, at, operand: self.reg(rs2) })
             }
         }
     }
@@ -537,6 +489,18 @@ impl Hart {
 
 /// The effect of an instruction that only goes on.
 const NOTHING: Effect = Effect::Sets { rd: 0, value: 0 };
+
+fn sets(rd: u8, value: u32) -> Effect
+    ensures { result ≡ Effect.Sets rd value }
+{
+    Effect::Sets { rd, value }
+}
+
+fn traps(cause: u32, value: u32) -> Effect
+    ensures { result ≡ Effect.Traps cause value }
+{
+    Effect::Traps { cause, value }
+}
 
 fn jump(rd: u8, target: u32) -> Effect
     requires { rd < 32 }
@@ -546,9 +510,6 @@ fn jump(rd: u8, target: u32) -> Effect
     if target % 4 == 0 {
         Effect::Jumps { rd, target }
     } else {
-        Effect::Traps {
-            cause: 0,
-            value: target,
-        }
+        traps(causes::MISALIGNED_TARGET, target)
     }
 }
