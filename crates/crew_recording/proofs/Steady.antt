@@ -1,10 +1,12 @@
 -- The board's counts go on as a recording asks.
-use Rattle.std.proofs.Common.{◌≡◌, ℕ, zero, suc, ◌+◌, ◌<◌, ◌≤◌, ◌||◌, Bool, true, false, List, [], ◌∷◌, length, map, replicate, Option, Some, None, slice_get, slice_index, nat_lt, is_some, refl, sym, ap, ◌∙◌, subst, inl, inr, arith, if◌then◌else◌}
+use Rattle.std.proofs.Common.{◌≡◌, ℕ, zero, suc, ◌+◌, ◌<◌, ◌≤◌, ◌||◌, List, [], length, map, replicate, Option, Some, None, slice_get, slice_index, nat_lt, is_some, refl, sym, ap, ◌∙◌, subst, inl, inr, arith}
 use Rattle.std.specs.List.{enumerate_from}
 use Rattle.std.specs.Option.{option_and_then}
 use Rattle.std.proofs.lemmas.List.FromFn.{length-enumerate_from}
-use Rattle.std.proofs.lemmas.Option.{none-some, same_Some}
+use Rattle.std.proofs.lemmas.Option.{none-some, same_Some, get_or_from_slice_get, slice_get_past, slice_get_within}
 use Rattle.std.proofs.lemmas.Bool.Decides.{eqb_tells}
+use Rattle.std.proofs.lemmas.List.{get_or-set_other, length-map, length-replicate, length-set}
+use Rattle.shared_types.proofs.Lists.{bound_to, chosen, mapped, set_here, unless}
 use Rattle.log_entry.specs.declared.log.Entry.{Entry}
 use Rattle.rv_hart.specs.Moves.{need_of}
 use Rattle.flat_machine.specs.State.{FlatState}
@@ -14,47 +16,23 @@ use Rattle.flat_machine.specs.declared.act.Act.{Act}
 use Rattle.flat_machine.specs.declared.act.Act.TheVariants.{Run, Touch, Poll, Lose}
 use Rattle.replay_model.specs.Board.{board}
 use Rattle.replay_model.specs.Items.{Item, IsFullOrder}
-use Rattle.replay_model.proofs.Driving.{mapped}
 use Rattle.crew_recording.specs.Recording.{Recording, IsSteady, first_recording, stream_in, ended_streams, log_of_recording}
 use Rattle.crew_recording.specs.Laws.{IsBoard, RunsAreObeyed}
-use Rattle.crew_recording.proofs.Streams.{set_here, set_size, index_is, index_there}
-use Rattle.crew_recording.proofs.Going.{IsTidy}
-use Rattle.crew_recording.proofs.Obeying.{map_size, tidy_all, full, ends}
-
-pub bound_to : {A B : Type 0} (f : A → Option B) (o : Option A) (b : B) → option_and_then f o ≡ Some b → (a : A) × (o ≡ Some a) × (f a ≡ Some b)
-bound_to f None b e = absurd (none-some _ e)
-bound_to f (Some a) b e = (a, refl, e)
-
-pub chosen : {A : Type 0} (b : Bool) (v t : A) → (if b then None else Some v) ≡ Some t → v ≡ t
-chosen true v t e = absurd (none-some _ e)
-chosen false v t e = same_Some _ _ e
-
-pub unless : {A : Type 0} (b : Bool) (o : Option A) (t : A) → (if b then None else o) ≡ Some t → o ≡ Some t
-unless true o t e = absurd (none-some _ e)
-unless false o t e = e
-
-pub within : {X : Type 0} (xs : List X) (i : ℕ) (x : X) → slice_get xs i ≡ Some x → i < length xs
-within [] i x e = absurd (none-some _ e)
-within (z ∷ xs) zero x e = omega arith
-within (z ∷ xs) (suc i) x e = let l = within xs i x e in omega (arith, l)
-
-pub beyond : {X : Type 0} (xs : List X) (i : ℕ) → length xs ≤ i → slice_get xs i ≡ None
-beyond [] i l = refl
-beyond (x ∷ xs) zero l = absurd (omega (arith, l))
-beyond (x ∷ xs) (suc i) l = beyond xs i (omega (arith, l))
+use Rattle.crew_recording.proofs.Items.{IsTidy}
+use Rattle.crew_recording.proofs.Obedience.{tidy_all, full, ends}
 
 -- a count that is raised by one, and no other
 raised : (counts : List ℕ) (h g : ℕ) → h < length counts → slice_index counts g ≤ slice_index (counted_up h counts) g
 raised counts h g l = elim (eqb_tells g h) [
   | inl (t, same) ↦ subst (λ k. slice_index counts k ≤ slice_index (counted_up h counts) k) (sym same) (let e = here in omega (arith, e))
-  | inr (f, n) ↦ let e = index_there counts h g (slice_index counts h + 1) n in omega (arith, e)
+  | inr (f, n) ↦ let e = get_or-set_other counts h g (slice_index counts h + 1) 0 n in omega (arith, e)
 ]
   where
     here : slice_index (counted_up h counts) h ≡ slice_index counts h + 1
-    here = index_is (counted_up h counts) h (slice_index counts h + 1) (set_here counts h (slice_index counts h + 1) l)
+    here = get_or_from_slice_get (counted_up h counts) h (slice_index counts h + 1) 0 (set_here counts h (slice_index counts h + 1) l)
 
 pub up_by_one : (counts : List ℕ) (h : ℕ) → h < length counts → slice_index (counted_up h counts) h ≡ slice_index counts h + 1
-up_by_one counts h l = index_is (counted_up h counts) h (slice_index counts h + 1) (set_here counts h (slice_index counts h + 1) l)
+up_by_one counts h l = get_or_from_slice_get (counted_up h counts) h (slice_index counts h + 1) 0 (set_here counts h (slice_index counts h + 1) l)
 
 -- what an act leaves of the harts and the counts
 pub record Leaves (s : FlatState) (act : Act) (t : FlatState) : Type 0 where
@@ -73,27 +51,27 @@ no_run act n h e = none-some _ (sym n ∙ ap runs_of e)
 pub leaves : (s t : FlatState) (act : Act) (harts : ℕ) → IsBoard harts s → next act s ≡ Some t → Leaves s act t
 leaves s t (Run h) harts on is =
     let x = bound_to (λ x. ran s h x (next_move x s.memory)) (slice_get s.harts h) t is in
-    let l : h < length s.counts = (let a = within s.harts h x.0 x.1 in let b = on.harts_size in let c = on.counts_size in omega (arith, a, b, c)) in
-    subst (Leaves s (Run h)) (chosen (is_some (access_of (need_of (next_move x.0 s.memory)))) _ t x.2) (record {
-      harts = set_size (map (lost_by _) s.harts) h _ ∙ map_size (lost_by _) s.harts;
-      counts = set_size s.counts h (slice_index s.counts h + 1);
+    let l : h < length s.counts = (let a = slice_get_within s.harts h x.0 x.1 in let b = on.harts_size in let c = on.counts_size in omega (arith, a, b, c)) in
+    subst (Leaves s (Run h)) ((chosen (is_some (access_of (need_of (next_move x.0 s.memory)))) _ t x.2).1) (record {
+      harts = length-set (map (lost_by _) s.harts) h _ ∙ length-map s.harts (lost_by _);
+      counts = length-set s.counts h (slice_index s.counts h + 1);
       rises = λ g. raised s.counts h g l;
       moves = λ g e. subst (λ k. slice_index (counted_up h s.counts) k ≡ slice_index s.counts k + 1) (same_Some _ _ (ap runs_of e)) (up_by_one s.counts h l);
     })
 leaves s t (Touch h input) harts on is =
     let x = bound_to (λ x. touch_made s h input x (next_move x s.memory)) (slice_get s.harts h) t is in
-    let l : h < length s.counts = (let a = within s.harts h x.0 x.1 in let b = on.harts_size in let c = on.counts_size in omega (arith, a, b, c)) in
+    let l : h < length s.counts = (let a = slice_get_within s.harts h x.0 x.1 in let b = on.harts_size in let c = on.counts_size in omega (arith, a, b, c)) in
     let d = mapped (accessed s h x.0 (next_move x.0 s.memory)) _ t (unless (is_some s.devices.stop) _ t x.2) in
     subst (Leaves s (Touch h input)) d.2 (record {
-      harts = set_size s.harts h _;
-      counts = set_size s.counts h (slice_index s.counts h + 1);
+      harts = length-set s.harts h _;
+      counts = length-set s.counts h (slice_index s.counts h + 1);
       rises = λ g. raised s.counts h g l;
       moves = λ g e. absurd (no_run (Touch h input) refl g e);
     })
 leaves s t (Poll h time) harts on is =
     let x = bound_to (poll_made s h time) (slice_get s.harts h) t is in
-    subst (Leaves s (Poll h time)) (chosen (is_some s.devices.stop || nat_lt time s.devices.mtime) _ t x.2) (record {
-      harts = set_size s.harts h _;
+    subst (Leaves s (Poll h time)) ((chosen (is_some s.devices.stop || nat_lt time s.devices.mtime) _ t x.2).1) (record {
+      harts = length-set s.harts h _;
       counts = refl;
       rises = λ g. omega arith;
       moves = λ g e. absurd (no_run (Poll h time) refl g e);
@@ -101,23 +79,19 @@ leaves s t (Poll h time) harts on is =
 leaves s t (Lose h) harts on is =
     let x = mapped (lost s h) (slice_get s.harts h) t is in
     subst (Leaves s (Lose h)) x.2 (record {
-      harts = set_size s.harts h _;
+      harts = length-set s.harts h _;
       counts = refl;
       rises = λ g. omega arith;
       moves = λ g e. absurd (no_run (Lose h) refl g e);
     })
 
-pub board_steady : (harts : ℕ) → IsSteady board harts (IsBoard harts)
-board_steady harts = record {
+pub board_steady : (unit harts : ℕ) → IsSteady (board unit) harts (IsBoard harts)
+board_steady unit harts = record {
   lasts = λ s t act on is. let l = leaves s t act harts on is in record { harts_size = l.harts ∙ on.harts_size; counts_size = l.counts ∙ on.counts_size };
   rises = λ s t act h on is. (leaves s t act harts on is).rises h;
   moves = λ s t h on is. (leaves s t (Run h) harts on is).moves h refl;
-  no_more = λ s h on l. ap (option_and_then (λ x. ran s h x (next_move x s.memory))) (beyond s.harts h (let a = on.harts_size in omega (arith, a, l)));
+  no_more = λ s h on l. ap (option_and_then (λ x. ran s h x (next_move x s.memory))) (slice_get_past s.harts h (let a = on.harts_size in omega (arith, a, l)));
 }
-
-pub replicate_size : {X : Type 0} (n : ℕ) (x : X) → length (replicate n x) ≡ n
-replicate_size zero x = refl
-replicate_size (suc n) x = ap suc (replicate_size n x)
 
 pub no_stream : (n h : ℕ) → h < n → stream_in (replicate n []) h ≡ []
 no_stream zero h l = absurd (omega (arith, l))
@@ -129,24 +103,27 @@ no_place zero h = refl
 no_place (suc n) zero = refl
 no_place (suc n) (suc h) = no_place n h
 
-pub first_tidy : (pages harts : ℕ) (first : FlatState) → IsBoard harts first → IsTidy board harts (IsBoard harts) (board_steady harts) (first_recording pages harts first)
-first_tidy pages harts first on = record {
+pub first_tidy : (unit pages harts : ℕ) (first : FlatState) → IsBoard harts first
+    → IsTidy (board unit) harts (IsBoard harts) (board_steady unit harts) (first_recording pages harts first)
+first_tidy unit pages harts first on = record {
   good = on;
-  streams = replicate_size harts [];
-  places = replicate_size harts 0;
+  streams = length-replicate harts [];
+  places = length-replicate harts 0;
   place = λ h l. no_place harts h ∙ sym (ap (λ (xs : List Entry). length xs) (no_stream harts h l));
 }
 
 -- a log has as many streams as its recording
-pub ended_size : (r : Recording FlatState) → length (ended_streams board r) ≡ length r.streams
-ended_size r = map_size _ (enumerate_from 0 r.streams) ∙ length-enumerate_from 0 r.streams
+pub ended_size : (unit : ℕ) (r : Recording FlatState) → length (ended_streams (board unit) r) ≡ length r.streams
+ended_size unit r = length-map (enumerate_from 0 r.streams) _ ∙ length-enumerate_from 0 r.streams
 
 pub runs_are_obeyed : RunsAreObeyed
-runs_are_obeyed pages limit harts image cause first items r on is =
+runs_are_obeyed unit pages limit harts image cause first items r on is =
     let begin = first_recording pages harts first in
-    let tidy = first_tidy pages harts first on in
-    let size : length (ended_streams board r) ≡ harts = ended_size r ∙ (tidy_all board harts (IsBoard harts) (board_steady harts) begin r items is tidy).streams in (
-      subst (λ n. IsFullOrder board (log_of_recording board pages limit image cause r) (first_recording pages n first).at (map (λ (x : ℕ × Item). x.0) items) r.at) (sym size)
-          (full board harts (IsBoard harts) (board_steady harts) pages limit image cause begin r items is tidy),
-      ends board harts (IsBoard harts) (board_steady harts) pages limit image cause begin r items is tidy,
+    let tidy = first_tidy unit pages harts first on in
+    let size : length (ended_streams (board unit) r) ≡ harts = ended_size unit r
+    ∙ (tidy_all (board unit) harts (IsBoard harts) (board_steady unit harts) begin r items is tidy).streams in (
+      subst (λ n. IsFullOrder (board unit) (log_of_recording (board unit) pages limit image cause r) (first_recording pages n first).at
+          (map (λ (x : ℕ × Item). x.0) items) r.at) (sym size)
+          (full (board unit) harts (IsBoard harts) (board_steady unit harts) pages limit image cause begin r items is tidy),
+      ends (board unit) harts (IsBoard harts) (board_steady unit harts) pages limit image cause begin r items is tidy,
     )

@@ -1,8 +1,10 @@
 -- The log of a recording of a board, whose items are allowed, is orderly.
-use Rattle.std.proofs.Common.{◌≡◌, ◌≢◌, ℕ, zero, suc, ◌+◌, ◌<◌, ◌≤◌, ◌||◌, Bool, true, false, List, [], length, replicate, Option, Some, None, slice_get, slice_index, unwrap_or, nat_lt, is_some, refl, sym, ap, ◌∙◌, subst, inl, inr, arith, if◌then◌else◌, true≢false}
+use Rattle.std.proofs.Common.{◌≡◌, ◌≢◌, ℕ, zero, suc, ◌+◌, ◌<◌, ◌≤◌, ◌||◌, Bool, false, List, [], length, replicate, Option, Some, None, slice_get, slice_index, unwrap_or, nat_lt, is_some, refl, sym, ap, ◌∙◌, subst, arith}
 use Rattle.std.specs.Option.{option_and_then}
-use Rattle.std.proofs.lemmas.Option.{none-some, same_Some}
-use Rattle.std.proofs.lemmas.Bool.Decides.{leb_tells}
+use Rattle.std.proofs.lemmas.Option.{none-some, same_Some, slice_get_within}
+use Rattle.std.proofs.lemmas.Bool.{ltb-false, or_parts}
+use Rattle.std.proofs.lemmas.List.{get_or-set_other, length-replicate}
+use Rattle.shared_types.proofs.Lists.{bound_to, chosen, mapped, unless}
 use Rattle.rv_words.specs.declared.shared.Mode.{Mode}
 use Rattle.rv_words.specs.declared.shared.Input.{Input}
 use Rattle.rv_words.specs.declared.shared.Input.TheVariants.{Time}
@@ -22,21 +24,19 @@ use Rattle.flat_machine.specs.declared.act.Act.TheVariants.{Run, Touch, Poll, Lo
 use Rattle.replay_model.specs.Board.{board}
 use Rattle.order_rules.specs.Holders.{row, held, nobody}
 use Rattle.replay_model.specs.Items.{Item}
-use Rattle.replay_model.proofs.Driving.{mapped}
-use Rattle.solo_recording.proofs.BoardClock.{touch_on}
+use Rattle.crew_recording.proofs.DeviceTimes.{touch_on}
 use Rattle.replay_model.specs.Flat.{Flat}
 use Rattle.crew_recording.specs.Recording.{Recording, IsSteady, Records, first_recording, stream_in, log_of_recording}
 use Rattle.crew_recording.specs.Allowed.{IsTimed, actor, AreAllowed}
 use Rattle.crew_recording.specs.Laws.{IsBoard, RunsAreOrderly}
-use Rattle.crew_recording.proofs.Streams.{index_there}
-use Rattle.crew_recording.proofs.Steady.{within, bound_to, chosen, unless, up_by_one, board_steady, replicate_size, no_stream, no_place}
+use Rattle.crew_recording.proofs.Steady.{up_by_one, board_steady, no_stream, no_place}
 use Rattle.crew_recording.proofs.Single.{IsTidyStream, no_stream_yet}
-use Rattle.crew_recording.proofs.Numbering.{At, many, IsNumbered}
-use Rattle.crew_recording.proofs.Fitting.{FitsAt}
-use Rattle.crew_recording.proofs.Ordered.{IsOrdered}
+use Rattle.crew_recording.proofs.Numbers.{At, many, IsNumbered}
+use Rattle.crew_recording.proofs.Tables.{FitsAt}
+use Rattle.crew_recording.proofs.OrderedRecordings.{IsOrdered}
 use Rattle.crew_recording.proofs.Rules.{many_streams, keeps_o1, keeps_o2, keeps_o3, keeps_o4, keeps_o5, keeps_o8}
 use Rattle.crew_recording.proofs.Behind.{ordered_all, keeps_o6, keeps_o7}
-use Rattle.crew_recording.proofs.Taken.{taken_whole}
+use Rattle.crew_recording.proofs.Takings.{taken_whole}
 
 -- the counts after an act
 abbrev counts_by : Act → List ℕ → List ℕ
@@ -61,24 +61,11 @@ abbrev time_in : Act → Option ℕ
 time_in (Poll h time) = Some time
 time_in act = None
 
-not_before : (b : Bool) (a m : ℕ) → (b || nat_lt a m) ≡ false → m ≤ a
-not_before b a m e = elim (leb_tells (suc a) m) [
-  | inl (y, less) ↦ absurd (true≢false (sym (or_last b (nat_lt a m) y) ∙ e))
-  | inr (y, more) ↦ omega (arith, more)
-] where
-  or_last : (b c : Bool) → c ≡ true → (b || c) ≡ true
-  or_last true c f = refl
-  or_last false c f = f
-
-not_chosen : {A : Type 0} (b : Bool) (o : Option A) (t : A) → (if b then None else o) ≡ Some t → b ≡ false
-not_chosen true o t e = absurd (none-some _ e)
-not_chosen false o t e = refl
-
 does : (harts : ℕ) (s t : FlatState) (act : Act) → IsBoard harts s → next act s ≡ Some t → Does s act t
 does harts s t (Run h) on is =
     let x = bound_to (λ x. ran s h x (next_move x s.memory)) (slice_get s.harts h) t is in
-    subst (Does s (Run h)) (chosen (is_some (access_of (need_of (next_move x.0 s.memory)))) _ t x.2) (record {
-      inside = (let a = within s.harts h x.0 x.1 in let b = on.harts_size in let c = on.counts_size in omega (arith, a, b, c));
+    subst (Does s (Run h)) ((chosen (is_some (access_of (need_of (next_move x.0 s.memory)))) _ t x.2).1) (record {
+      inside = (let a = slice_get_within s.harts h x.0 x.1 in let b = on.harts_size in let c = on.counts_size in omega (arith, a, b, c));
       counts = refl;
       later = omega arith;
       touch_time = λ g time e. absurd (none-some _ (ap input_in e));
@@ -86,11 +73,13 @@ does harts s t (Run h) on is =
     })
 does harts s t (Touch h input) on is =
     let x = bound_to (λ x. touch_made s h input x (next_move x s.memory)) (slice_get s.harts h) t is in
-    let d = mapped (accessed s h x.0 (next_move x.0 s.memory)) (option_and_then (λ access. touched s.devices access input) (access_of (need_of (next_move x.0 s.memory)))) t (unless (is_some s.devices.stop) _ t x.2) in
+    let d = mapped (accessed s h x.0 (next_move x.0 s.memory))
+    (option_and_then (λ access. touched s.devices access input) (access_of (need_of (next_move x.0 s.memory)))) t
+    (unless (is_some s.devices.stop) _ t x.2) in
     let a = bound_to (λ access. touched s.devices access input) (access_of (need_of (next_move x.0 s.memory))) d.0 d.1 in
     let goes = touch_on s.devices a.0 input d.0 a.2 in
     subst (Does s (Touch h input)) d.2 (record {
-      inside = (let a = within s.harts h x.0 x.1 in let b = on.harts_size in let c = on.counts_size in omega (arith, a, b, c));
+      inside = (let a = slice_get_within s.harts h x.0 x.1 in let b = on.harts_size in let c = on.counts_size in omega (arith, a, b, c));
       counts = refl;
       later = goes.later;
       touch_time = λ g time e. goes.time time (same_Some _ _ (ap input_in e));
@@ -98,9 +87,10 @@ does harts s t (Touch h input) on is =
     })
 does harts s t (Poll h time) on is =
     let x = bound_to (poll_made s h time) (slice_get s.harts h) t is in
-    let l = not_before (is_some s.devices.stop) time s.devices.mtime (not_chosen (is_some s.devices.stop || nat_lt time s.devices.mtime) _ t x.2) in
-    subst (Does s (Poll h time)) (chosen (is_some s.devices.stop || nat_lt time s.devices.mtime) _ t x.2) (record {
-      inside = (let a = within s.harts h x.0 x.1 in let b = on.harts_size in let c = on.counts_size in omega (arith, a, b, c));
+    let c = chosen (is_some s.devices.stop || nat_lt time s.devices.mtime) _ t x.2 in
+    let l = ltb-false time s.devices.mtime (or_parts (is_some s.devices.stop) (nat_lt time s.devices.mtime) c.0).1 in
+    subst (Does s (Poll h time)) c.1 (record {
+      inside = (let a = slice_get_within s.harts h x.0 x.1 in let b = on.harts_size in let c = on.counts_size in omega (arith, a, b, c));
       counts = refl;
       later = l;
       touch_time = λ g u e. absurd (none-some _ (ap input_in e));
@@ -109,7 +99,7 @@ does harts s t (Poll h time) on is =
 does harts s t (Lose h) on is =
     let x = mapped (lost s h) (slice_get s.harts h) t is in
     subst (Does s (Lose h)) x.2 (record {
-      inside = (let a = within s.harts h x.0 x.1 in let b = on.harts_size in let c = on.counts_size in omega (arith, a, b, c));
+      inside = (let a = slice_get_within s.harts h x.0 x.1 in let b = on.harts_size in let c = on.counts_size in omega (arith, a, b, c));
       counts = refl;
       later = omega arith;
       touch_time = λ g time e. absurd (none-some _ (ap input_in e));
@@ -117,14 +107,15 @@ does harts s t (Lose h) on is =
     })
 
 others_stay : (act : Act) (counts : List ℕ) (g : ℕ) → g ≢ actor act → slice_index (counts_by act counts) g ≡ slice_index counts g
-others_stay (Run h) counts g n = index_there counts h g (slice_index counts h + 1) n
-others_stay (Touch h input) counts g n = index_there counts h g (slice_index counts h + 1) n
+others_stay (Run h) counts g n = get_or-set_other counts h g (slice_index counts h + 1) 0 n
+others_stay (Touch h input) counts g n = get_or-set_other counts h g (slice_index counts h + 1) 0 n
 others_stay (Poll h time) counts g n = refl
 others_stay (Lose h) counts g n = refl
 
-pub board_timed : (harts : ℕ) → IsTimed board (IsBoard harts)
-board_timed harts = record {
-  touch_moves = λ s t h input on is. let d = does harts s t (Touch h input) on is in ap (λ (c : List ℕ). slice_index c h) d.counts ∙ up_by_one s.counts h d.inside;
+pub board_timed : (unit harts : ℕ) → IsTimed (board unit) (IsBoard harts)
+board_timed unit harts = record {
+  touch_moves = λ s t h input on is. let d = does harts s t (Touch h input) on is in
+      ap (λ (c : List ℕ). slice_index c h) d.counts ∙ up_by_one s.counts h d.inside;
   poll_stays = λ s t h time on is. ap (λ (c : List ℕ). slice_index c h) (does harts s t (Poll h time) on is).counts;
   lose_stays = λ s t h on is. ap (λ (c : List ℕ). slice_index c h) (does harts s t (Lose h) on is).counts;
   others = λ s t act g on is n. ap (λ (c : List ℕ). slice_index c g) (does harts s t act on is).counts ∙ others_stay act s.counts g n;
@@ -173,13 +164,20 @@ nobody_holds zero n page h = refl
 nobody_holds (suc pages) n zero h = none_of n h
 nobody_holds (suc pages) n (suc page) h = nobody_holds pages n page h
 
-module _ {S V : Type 0} (flat : Flat S V) (harts : ℕ) (Good : S → Type 0) (steady : IsSteady flat harts Good) (timed : IsTimed flat Good) (pages limit : ℕ) (first : S) (good : Good first) (unmoved : (h : ℕ) → flat.count first h ≡ 0) where
+module _ {S V : Type 0} (flat : Flat S V) (harts : ℕ) (Good : S → Type 0) (steady : IsSteady flat harts Good) (timed : IsTimed flat Good) (pages limit : ℕ)
+    (first : S) (good : Good first) (unmoved : (h : ℕ) → flat.count first h ≡ 0) where
   pub first_ordered : IsOrdered flat harts Good steady timed pages limit (first_recording pages harts first)
   first_ordered = record {
-    tidy = record { good = good; streams = replicate_size harts []; places = replicate_size harts 0; place = λ h l. no_place harts h ∙ sym (ap (λ (xs : List Entry). length xs) (no_stream harts h l)) };
-    each = λ h l. subst (λ s. IsTidyStream limit s (flat.count first h)) (sym (empty_stream harts h)) (subst (IsTidyStream limit []) (sym (unmoved h)) (no_stream_yet limit));
+    tidy = record {
+      good = good;
+      streams = length-replicate harts [];
+      places = length-replicate harts 0;
+      place = λ h l. no_place harts h ∙ sym (ap (λ (xs : List Entry). length xs) (no_stream harts h l));
+    };
+    each = λ h l. subst (λ s. IsTidyStream limit s (flat.count first h)) (sym (empty_stream harts h))
+        (subst (IsTidyStream limit []) (sym (unmoved h)) (no_stream_yet limit));
     numbers = λ page l. subst (λ n. IsNumbered (number_on page) n (replicate harts [])) (sym (no_place pages page)) (none_numbered (number_on page) harts);
-    numbers_size = replicate_size pages 0;
+    numbers_size = length-replicate pages 0;
     in_pages = λ g i e p at is. absurd (no_entry harts g i e at);
     ordinals = none_numbered ordinal_of harts;
     times = λ g i t e at is. absurd (no_entry harts g i e at);
@@ -188,9 +186,9 @@ module _ {S V : Type 0} (flat : Flat S V) (harts : ℕ) (Good : S → Type 0) (s
 
   pub first_fits : FitsAt flat harts pages (first_recording pages harts first).at
   first_fits = record {
-    numbers_size = replicate_size pages 0;
-    holders_size = replicate_size pages (replicate harts None);
-    rows = λ page l. ap (λ (xs : List (Option Mode)). length xs) (row_of_nobody pages harts page l) ∙ replicate_size harts None;
+    numbers_size = length-replicate pages 0;
+    holders_size = length-replicate pages (replicate harts None);
+    rows = λ page l. ap (λ (xs : List (Option Mode)). length xs) (row_of_nobody pages harts page l) ∙ length-replicate harts None;
   }
 
   pub orderly : (image : List ℕ) (cause : Cause) (items : List (ℕ × Item)) (r : Recording S) (is : Records flat (first_recording pages harts first) items r)
@@ -198,7 +196,8 @@ module _ {S V : Type 0} (flat : Flat S V) (harts : ℕ) (Good : S → Type 0) (s
   orderly image cause items r is allowed =
       let begin = first_recording pages harts first in
       let last = ordered_all flat harts Good steady timed pages limit begin r items is allowed first_ordered in
-      let follow = λ (page h : ℕ). nobody_holds pages harts page h ∙ sym (ap (rules.held (log_of_recording flat pages limit image cause r) page h) (no_place pages page)) in
+      let follow = λ (page h : ℕ). nobody_holds pages harts page h
+      ∙ sym (ap (rules.held (log_of_recording flat pages limit image cause r) page h) (no_place pages page)) in
       let empty = λ (g : ℕ). ap (λ (xs : List Entry). length xs) (empty_stream harts g) in
       record {
         counts_rise_to_the_end = keeps_o1 flat harts Good steady timed pages limit image cause r last;
@@ -207,12 +206,14 @@ module _ {S V : Type 0} (flat : Flat S V) (harts : ℕ) (Good : S → Type 0) (s
         touches_go_on = keeps_o4 flat harts Good steady timed pages limit image cause r last;
         pages_are_numbered = keeps_o5 flat harts Good steady timed pages limit image cause r last;
         holders_are_crew = keeps_o6 flat harts Good steady timed pages limit image cause r last begin items is allowed first_ordered first_fits follow empty;
-        gains_name_their_waits = keeps_o7 flat harts Good steady timed pages limit image cause r last begin items is allowed first_ordered first_fits follow empty;
+        gains_name_their_waits =
+            keeps_o7 flat harts Good steady timed pages limit image cause r last begin items is allowed first_ordered first_fits follow empty;
         ordinals_and_times_rise = keeps_o8 flat harts Good steady timed pages limit image cause r last;
         least_order_takes_all = taken_whole flat harts Good steady timed pages limit image cause r last begin items is allowed first_ordered
-            (ap (λ n. record { places = replicate n 0; numbers = replicate pages 0; ordinal = 0 }) (sym (many_streams flat harts Good steady timed pages limit image cause r last)));
+            (ap (λ n. record { places = replicate n 0; numbers = replicate pages 0; ordinal = 0 })
+            (sym (many_streams flat harts Good steady timed pages limit image cause r last)));
       }
 
 pub runs_are_orderly : RunsAreOrderly
-runs_are_orderly pages limit harts image cause first items r is on unmoved allowed =
-    orderly board harts (IsBoard harts) (board_steady harts) (board_timed harts) pages limit first on unmoved image cause items r is allowed
+runs_are_orderly unit pages limit harts image cause first items r is on unmoved allowed =
+    orderly (board unit) harts (IsBoard harts) (board_steady unit harts) (board_timed unit harts) pages limit first on unmoved image cause items r is allowed

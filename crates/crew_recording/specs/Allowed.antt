@@ -1,5 +1,6 @@
 -- What is made so that the log is orderly (docs/recorder.md, docs/order-rules.md).
 use Rattle.std.specs.Prelude.{ℕ, ◌≡◌, ◌≢◌, ◌+◌, ◌%◌, ◌<◌, ◌≤◌, true, false, List, [], ◌∷◌, Some}
+use Rattle.rv_words.specs.Limits.{poll_distance}
 use Rattle.rv_words.specs.declared.shared.Cause.TheVariants.{Limit}
 use Rattle.rv_words.specs.declared.shared.Input.{Input}
 use Rattle.rv_words.specs.declared.shared.Input.TheVariants.{Time}
@@ -17,7 +18,7 @@ use Rattle.crew_recording.specs.Recording.{Recording, stream_in, Records, log_of
 
 -- where a Poll is due at a count, the stream has it
 abbrev pub IsPolled : List Entry → ℕ → Type 0
-IsPolled stream count = count % 4096 ≡ 0 → has_poll stream count ≡ true
+IsPolled stream count = count % poll_distance ≡ 0 → has_poll stream count ≡ true
 
 abbrev pub actor : Act → ℕ
 actor (Run h) = h
@@ -48,7 +49,8 @@ module _ {S V : Type 0} (flat : Flat S V) (pages limit : ℕ) where
   abbrev pub Allowed : Recording S → ℕ → Item → Type 0
   Allowed r h Ended = ⊥
   Allowed r h Move = (now r h < limit) × IsPolled (stream_in r.streams h) (now r h)
-  Allowed r h (Makes (entries.Poll count ord time bits)) = (now r h < limit) × (now r h % 4096 ≡ 0) × (has_poll (stream_in r.streams h) (now r h) ≡ false)
+  Allowed r h (Makes (entries.Poll count ord time bits)) = (now r h < limit) × (now r h % poll_distance ≡ 0)
+      × (has_poll (stream_in r.streams h) (now r h) ≡ false)
   Allowed r h (Makes (entries.Gain count page seq mode waits)) =
       (now r h < limit) × IsPolled (stream_in r.streams h) (now r h) × (page < pages) × (strength (held r.at.holders page h) < strength (Some mode))
       × ((g : ℕ) → g ≢ h → conflict (Some mode) (held r.at.holders page g) ≡ false) × (waits.items ≡ waits_due (log_so_far r) page h seq)

@@ -18,13 +18,15 @@ pub record IsBoard (harts : ℕ) (s : FlatState) : Type 0 where
 -- the order that names each item's hart obeys the log, leads to the recorded state, and is full, with whatever cause the run ended;
 -- and every hart has ended there
 abbrev pub RunsAreObeyed : Type 0
-RunsAreObeyed = (pages limit harts : ℕ) (image : List ℕ) (cause : Cause) (first : FlatState) (items : List (ℕ × Item)) (r : Recording FlatState)
-    → IsBoard harts first → Records board (first_recording pages harts first) items r
-    → IsFullOrder board (log_of_recording board pages limit image cause r) (start (log_of_recording board pages limit image cause r) first) (map (λ x. x.0) items) r.at
-    × (all_ended board (log_of_recording board pages limit image cause r) r.at ≡ true)
+RunsAreObeyed = (unit pages limit harts : ℕ) (image : List ℕ) (cause : Cause) (first : FlatState) (items : List (ℕ × Item)) (r : Recording FlatState)
+    → IsBoard harts first → Records (board unit) (first_recording pages harts first) items r
+    → IsFullOrder (board unit) (log_of_recording (board unit) pages limit image cause r)
+    (start (log_of_recording (board unit) pages limit image cause r) first) (map (λ x. x.0) items) r.at
+    × (all_ended (board unit) (log_of_recording (board unit) pages limit image cause r) r.at ≡ true)
 
 -- where each item is allowed, the log is orderly
 abbrev pub RunsAreOrderly : Type 0
-RunsAreOrderly = (pages limit harts : ℕ) (image : List ℕ) (cause : Cause) (first : FlatState) (items : List (ℕ × Item)) (r : Recording FlatState) (is : Records board (first_recording pages harts first) items r)
-    → IsBoard harts first → ((h : ℕ) → board.count first h ≡ 0) → AreAllowed board pages limit (first_recording pages harts first) r items is
-    → IsOrderly (log_of_recording board pages limit image cause r)
+RunsAreOrderly = (unit pages limit harts : ℕ) (image : List ℕ) (cause : Cause) (first : FlatState) (items : List (ℕ × Item)) (r : Recording FlatState)
+    (is : Records (board unit) (first_recording pages harts first) items r)
+    → IsBoard harts first → ((h : ℕ) → (board unit).count first h ≡ 0) → AreAllowed (board unit) pages limit (first_recording pages harts first) r items is
+    → IsOrderly (log_of_recording (board unit) pages limit image cause r)

@@ -22,6 +22,10 @@ pub record Recording (S : Type 0) : Type 0 where
 abbrev pub stream_in : List (List Entry) → ℕ → List Entry
 stream_in streams h = unwrap_or (slice_get streams h) []
 
+-- each stream with an End at its hart's count
+abbrev pub with_ends : (ℕ → ℕ) → List (List Entry) → List (List Entry)
+with_ends count streams = map (λ s. s.1 ++ End (count s.0) ∷ []) (enumerate_from 0 streams)
+
 -- the streams once a hart made an item
 abbrev pub with_item : ℕ → Item → List (List Entry) → List (List Entry)
 with_item h (Makes e) streams = slice_set streams h (stream_in streams h ++ e ∷ [])
@@ -53,9 +57,8 @@ module _ {S V : Type 0} (flat : Flat S V) where
   Records r [] s = r ≡ s
   Records r (x ∷ items) s = (m : Recording S) × IsRecorded r x.0 x.1 m × Records m items s
 
-  -- each stream with an End at its hart's count
   abbrev pub ended_streams : Recording S → List (List Entry)
-  ended_streams r = map (λ s. s.1 ++ End (flat.count r.at.flat s.0) ∷ []) (enumerate_from 0 r.streams)
+  ended_streams r = with_ends (flat.count r.at.flat) r.streams
 
   -- the log of a recording that ended there
   abbrev pub log_of_recording : ℕ → ℕ → List ℕ → Cause → Recording S → Log

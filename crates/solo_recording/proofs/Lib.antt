@@ -1,10 +1,9 @@
-pub mod Prefix
 pub mod Fits
 pub mod Tidy
-pub mod Kept
+pub mod Items
 pub mod Rules
-pub mod Obeying
+pub mod Obedience
 pub mod Outcome
-pub mod Taking
+pub mod Takings
 pub mod Solo
 pub mod BoardClock

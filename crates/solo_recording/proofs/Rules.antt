@@ -2,9 +2,11 @@
 use Rattle.std.proofs.Common.{◌≡◌, ◌⊎◌, ℕ, zero, suc, ◌+◌, ◌-◌, ◌*◌, ◌/◌, ◌%◌, ◌<◌, ◌≤◌, ◌==◌, ◌&&◌, ◌||◌, not, nat_lt, nat_le, Bool, true, false, List, [], ◌∷◌, ◌++◌, length, take, map, find, Option, Some, None, slice_get, count_by, is_some, refl, sym, ap, ap₂, ◌∙◌, subst, inl, inr, ⊎_elim, arith, if◌then◌else◌, true≢false, unwrap_or, cond, append-nil}
 use Rattle.std.specs.Option.{option_and_then, option_map_or}
 use Rattle.std.proofs.lemmas.Option.{none-some, same_Some}
-use Rattle.std.proofs.lemmas.Bool.{eqb-true, eq-eqb, ne_eqb}
+use Rattle.std.proofs.lemmas.Bool.{eqb-true, eq-eqb, ne_eqb, and_right, le-ltb, lt-leb, lt-ltb, or_from}
 use Rattle.std.proofs.lemmas.Bool.Decides.{eqb_tells, leb_tells}
 use Rattle.std.proofs.lemmas.List.{length_push, take_all, take-append-le}
+use Rattle.orders_law.proofs.Below.{below_at}
+use Rattle.shared_types.proofs.Lists.{at_end, at_one_more, find_place, get_take, in_take, map_at, none_there, one_passes}
 use lib.Pointwise.{pointwise}
 use Rattle.orders_law.specs.Orders.{below}
 use Rattle.rv_words.specs.declared.shared.Cause.{Cause}
@@ -18,60 +20,13 @@ use Rattle.order_rules.specs.Orderly.{Spot, spots, at_entry, Keeps, o1, o2, o3, 
 use Rattle.order_rules.specs.Laws.{IsSpot}
 use Rattle.order_rules.proofs.Least.{first_is_least}
 use Rattle.solo_recording.specs.Recording.{solo_log}
-use Rattle.solo_recording.proofs.Prefix.{EachAfter, at_snoc, at_end, at_take, take_at, none_pass, one_passes, count_below, count_all}
+use Rattle.crew_recording.proofs.Tests.{some_and_false}
+use Rattle.crew_recording.proofs.Prefix.{EachAfter, count_below, count_all}
 use Rattle.solo_recording.proofs.Fits.{Fits, on_page, has_ordinal, waits_of}
-
-pub lt_false : (a b : ℕ) → b ≤ a → nat_lt a b ≡ false
-lt_false a b l = elim (leb_tells (suc a) b) [
-  | inl (t, less) ↦ absurd (omega (arith, l, less))
-  | inr (f, more) ↦ f
-]
-
-pub less_of : (a b : ℕ) → nat_lt a b ≡ true → a < b
-less_of a b e = elim (leb_tells (suc a) b) [
-  | inl (t, l) ↦ omega (arith, l)
-  | inr (f, l) ↦ absurd (true≢false (sym e ∙ f))
-]
-
-lt_true : (a b : ℕ) → a < b → nat_lt a b ≡ true
-lt_true a b l = elim (leb_tells (suc a) b) [
-  | inl (t, less) ↦ t
-  | inr (f, more) ↦ absurd (omega (arith, l, more))
-]
-
-pub le_false : (a b : ℕ) → b < a → nat_le a b ≡ false
-le_false a b l = elim (leb_tells a b) [
-  | inl (t, less) ↦ absurd (omega (arith, l, less))
-  | inr (f, more) ↦ f
-]
-
-pub and_false : (a b : Bool) → b ≡ false → (a && b) ≡ false
-and_false true b e = e
-and_false false b e = refl
-
-pub or_none : (a b : Bool) → a ≡ false → b ≡ false → (a || b) ≡ false
-or_none a b e f = ap₂ (λ x y. x || y) e f
-
-pub some_and_false : {X : Type 0} (o : Option X) (test : X → Bool) → ((x : X) → o ≡ Some x → test x ≡ false) → is_some_and o test ≡ false
-some_and_false None test f = refl
-some_and_false (Some x) test f = f x refl
 
 find_step : {X : Type 0} (b : Bool) (z x : X) (rest : Option X) → cond b (Some z) rest ≡ Some x → ((b ≡ true) × (z ≡ x)) ⊎ ((b ≡ false) × (rest ≡ Some x))
 find_step true z x rest e = inl (refl, same_Some _ _ e)
 find_step false z x rest e = inr (refl, e)
-
-pub find_at : {X : Type 0} (test : X → Bool) (xs : List X) (x : X) → find test xs ≡ Some x → (j : ℕ) × (slice_get xs j ≡ Some x) × (test x ≡ true)
-find_at test [] x e = absurd (none-some _ e)
-find_at test (z ∷ xs) x e = ⊎_elim (λ t. (0, ap Some t.1, subst (λ y. test y ≡ true) t.1 t.0)) (λ f. let r = find_at test xs x f.1 in (suc r.0, r.1, r.2)) (find_step (test z) z x (find test xs) e)
-
-below_at : (n j k : ℕ) → slice_get (below n) j ≡ Some k → k < n
-below_at zero j k e = absurd (none-some _ e)
-below_at (suc n) j k e = ⊎_elim (λ l. let m = below_at n j k l.1 in omega (arith, m)) (λ s. let w = s.1 in omega (arith, w)) (at_snoc (below n) n k j e)
-
-map_at : {X Y : Type 0} (f : X → Y) (xs : List X) (j : ℕ) (y : Y) → slice_get (map f xs) j ≡ Some y → (x : X) × (slice_get xs j ≡ Some x) × (f x ≡ y)
-map_at f [] j y e = absurd (none-some _ e)
-map_at f (x ∷ xs) zero y e = (x, refl, same_Some _ _ e)
-map_at f (x ∷ xs) (suc j) y e = map_at f xs j y e
 
 module _ (limit pages : ℕ) (image : List ℕ) (cause : Cause) (es : List Entry) (c : ℕ) where
   abbrev pub whole : List Entry
@@ -102,7 +57,8 @@ module _ (limit pages : ℕ) (image : List ℕ) (cause : Cause) (es : List Entry
   on_entry test each i = some_and_false (slice_get whole i) (λ e. test (at i e)) (each i)
 
   last_is : last_of whole ≡ Some (entries.End c)
-  last_is = let l = length_push es (entries.End c) in let f : length whole - 1 ≡ length es = omega (arith, l) in ap (slice_get whole) f ∙ at_end es (entries.End c)
+  last_is = let l = length_push es (entries.End c) in let f : length whole - 1 ≡ length es = omega (arith, l) in
+      ap (slice_get whole) f ∙ at_end es (entries.End c)
 
   end_is : end_count whole ≡ c
   end_is = ap (λ o. option_map_or count_of o 0) last_is
@@ -114,25 +70,30 @@ module _ (limit pages : ℕ) (image : List ℕ) (cause : Cause) (es : List Entry
     -- what stands before an entry
     previous_at : (i : ℕ) (e b : Entry) → previous log (at i e) ≡ Some b → (j : ℕ) × (j < i) × (slice_get whole j ≡ Some b)
     previous_at zero e b is = absurd (none-some _ is)
-    previous_at (suc i) e b is = (suc i - 1, omega arith, sym (ap (λ x. if x then None else slice_get whole (suc i - 1)) (ne_eqb (suc i) 0 (λ z. absurd (omega (arith, z))))) ∙ is)
+    previous_at (suc i) e b is =
+        (suc i - 1, omega arith, sym (ap (λ x. if x then None else slice_get whole (suc i - 1)) (ne_eqb (suc i) 0 (λ z. absurd (omega (arith, z))))) ∙ is)
 
     all_below : (i : ℕ) (e : Entry) → slice_get whole i ≡ Some e → count_of e ≤ c
-    all_below i e is = ⊎_elim (λ l. w.below i e l.1) (λ s. subst (λ z. count_of z ≤ c) s.1 (omega arith)) (at_snoc es (entries.End c) e i is)
+    all_below i e is = ⊎_elim (λ l. w.below i e l.1) (λ s. subst (λ z. count_of z ≤ c) s.1 (omega arith)) (at_one_more es (entries.End c) e i is)
 
     o1_at : (i : ℕ) (e : Entry) → slice_get whole i ≡ Some e → breaks_o1 log (at i e) ≡ false
-    o1_at i e is = or_none _ _
-        (some_and_false (previous log (at i e)) (λ p. nat_lt (count_of e) (count_of p)) (λ b before. let p = previous_at i e b before in lt_false (count_of e) (count_of b) ((w.each i e is).rises p.0 b (take_at whole i p.0 b p.1 p.2))))
-        (⊎_elim (λ l. ap (λ x. x && (not (i + 1 == length whole) || nat_lt limit (count_of e))) (w.ends i e l.1)) (λ s. and_false (is_end e) _ (last_end s)) (at_snoc es (entries.End c) e i is))
+    o1_at i e is = or_from _ _
+        (some_and_false (previous log (at i e)) (λ p. nat_lt (count_of e) (count_of p))
+        (λ b before. let p = previous_at i e b before in le-ltb (count_of e) (count_of b) ((w.each i e is).rises p.0 b ((get_take whole i p.0 p.1 ∙ p.2)))))
+        (⊎_elim (λ l. ap (λ x. x && (not (i + 1 == length whole) || nat_lt limit (count_of e))) (w.ends i e l.1)) (λ s. and_right (is_end e) _ (last_end s))
+        (at_one_more es (entries.End c) e i is))
       where
         last_end : (i ≡ length es) × (entries.End c ≡ e) → (not (i + 1 == length whole) || nat_lt limit (count_of e)) ≡ false
-        last_end s = or_none _ _ (ap not (eq-eqb (i + 1) (length whole) (let a = s.0 in let l = length_push es (entries.End c) in omega (arith, a, l)))) (lt_false limit (count_of e) (subst (λ z. count_of z ≤ limit) s.1 w.bounded))
+        last_end s = or_from _ _ (ap not (eq-eqb (i + 1) (length whole) (let a = s.0 in let l = length_push es (entries.End c) in omega (arith, a, l))))
+            (le-ltb limit (count_of e) (subst (λ z. count_of z ≤ limit) s.1 w.bounded))
 
     pub keeps_o1 : Keeps log o1
-    keeps_o1 = keeps (o1 log) (λ i l. or_none _ _ (on_entry (breaks_o1 log) o1_at i) (and_false (i == length whole) _ (ap (λ o. not (is_some_and o is_end)) last_is)))
+    keeps_o1 = keeps (o1 log)
+        (λ i l. or_from _ _ (on_entry (breaks_o1 log) o1_at i) (and_right (i == length whole) _ (ap (λ o. not (is_some_and o is_end)) last_is)))
 
     o2_at : (i : ℕ) (e : Entry) → slice_get whole i ≡ Some e → breaks_o2 log (at i e) ≡ false
-    o2_at i e is = none_pass _ (take i whole) (λ j b bt. elim (eqb_tells (count_of b) (count_of e)) [
-      | inl (t, same) ↦ let k = (w.each i e is).kinds j b bt same in and_false _ _ (or_none _ _ (or_none _ _ k.0 k.1) k.2)
+    o2_at i e is = none_there _ (take i whole) (λ j b bt. elim (eqb_tells (count_of b) (count_of e)) [
+      | inl (t, same) ↦ let k = (w.each i e is).kinds j b bt same in and_right _ _ (or_from _ _ (or_from _ _ k.0 k.1) k.2)
       | inr (f, n) ↦ ap (λ x. x && (is_touch b || is_end b || is_poll e)) f
     ])
 
@@ -142,10 +103,10 @@ module _ (limit pages : ℕ) (image : List ℕ) (cause : Cause) (es : List Entry
     o4_at : (i : ℕ) (e : Entry) → slice_get whole i ≡ Some e → breaks_o4 log (at i e) ≡ false
     o4_at i e is = some_and_false (previous log (at i e)) (λ p. is_touch p && nat_le (count_of e) (count_of p)) (λ b before.
         let p = previous_at i e b before in
-        let rise = (w.each i e is).rises p.0 b (take_at whole i p.0 b p.1 p.2) in
+        let rise = (w.each i e is).rises p.0 b ((get_take whole i p.0 p.1 ∙ p.2)) in
         elim (eqb_tells (count_of b) (count_of e)) [
-          | inl (t, same) ↦ ap (λ x. x && nat_le (count_of e) (count_of b)) ((w.each i e is).kinds p.0 b (take_at whole i p.0 b p.1 p.2) same).0
-          | inr (f, n) ↦ and_false (is_touch b) _ (le_false (count_of e) (count_of b) (omega (arith, rise, n)))
+          | inl (t, same) ↦ ap (λ x. x && nat_le (count_of e) (count_of b)) ((w.each i e is).kinds p.0 b ((get_take whole i p.0 p.1 ∙ p.2)) same).0
+          | inr (f, n) ↦ and_right (is_touch b) _ (lt-leb (count_of e) (count_of b) (omega (arith, rise, n)))
         ])
 
     pub keeps_o4 : Keeps log o4
@@ -154,26 +115,29 @@ module _ (limit pages : ℕ) (image : List ℕ) (cause : Cause) (es : List Entry
     -- a Poll stands where it may
     may_be : (e : Entry) (count : ℕ) → count ≤ c → count % 4096 ≡ 0 → count < limit → may_poll log c count ≡ true
     may_be e count l due less = elim (eqb_tells count c) [
-      | inl (t, same) ↦ ap₂ (λ x y. x && (nat_lt count c || y)) (eq-eqb (count % 4096) 0 due) (ap₂ (λ x y. x && y) t (lt_true count limit less)) ∙ or_true (nat_lt count c)
-      | inr (f, n) ↦ ap₂ (λ x y. x && (y || ((count == c) && nat_lt count limit))) (eq-eqb (count % 4096) 0 due) (lt_true count c (omega (arith, l, n)))
+      | inl (t, same) ↦ ap₂ (λ x y. x && (nat_lt count c || y)) (eq-eqb (count % 4096) 0 due) (ap₂ (λ x y. x && y) t (lt-ltb count limit less))
+          ∙ or_true (nat_lt count c)
+      | inr (f, n) ↦ ap₂ (λ x y. x && (y || ((count == c) && nat_lt count limit))) (eq-eqb (count % 4096) 0 due) (lt-ltb count c (omega (arith, l, n)))
     ] where
       or_true : (b : Bool) → (b || true) ≡ true
       or_true true = refl
       or_true false = refl
 
-    poll_may : (e : Entry) (b : Bool) → is_poll e ≡ b → count_of e ≤ c → (is_poll e ≡ true → (count_of e % 4096 ≡ 0) × (count_of e < limit)) → (b && not (may_poll log (end_count whole) (count_of e))) ≡ false
+    poll_may : (e : Entry) (b : Bool) → is_poll e ≡ b → count_of e ≤ c → (is_poll e ≡ true → (count_of e % 4096 ≡ 0) × (count_of e < limit))
+        → (b && not (may_poll log (end_count whole) (count_of e))) ≡ false
     poll_may e false is l polls = refl
     poll_may e true is l polls = ap not (ap (λ n. may_poll log n (count_of e)) end_is ∙ may_be e (count_of e) l (polls is).0 (polls is).1)
 
     has_due : (k : ℕ) → k * 4096 < c → has_poll whole (k * 4096) ≡ true
-    has_due k l = one_passes (λ e. is_poll e && (count_of e == k * 4096)) es (entries.End c ∷ []) (subst (λ xs. has_poll xs (k * 4096) ≡ true) front ((w.each (length es) (entries.End c) (at_end es (entries.End c))).due k l))
+    has_due k l = one_passes (λ e. is_poll e && (count_of e == k * 4096)) es (entries.End c ∷ [])
+        (subst (λ xs. has_poll xs (k * 4096) ≡ true) front ((w.each (length es) (entries.End c) (at_end es (entries.End c))).due k l))
       where
         front : take (length es) whole ≡ es
         front = take-append-le (length es) es (entries.End c ∷ []) (omega arith) ∙ take_all (length es) es (omega arith)
 
     o3_at : (i : ℕ) (e : Entry) → slice_get whole i ≡ Some e → breaks_o3 log (at i e) ≡ false
-    o3_at i e is = or_none _ _ (poll_may e (is_poll e) refl (all_below i e is) (w.each i e is).polls)
-        (none_pass _ (polls_due (end_count whole)) (λ j due at_due.
+    o3_at i e is = or_from _ _ (poll_may e (is_poll e) refl (all_below i e is) (w.each i e is).polls)
+        (none_there _ (polls_due (end_count whole)) (λ j due at_due.
         let m = map_at (λ k. k * 4096) (below ((end_count whole + 4095) / 4096)) j due at_due in
         let k = below_at ((end_count whole + 4095) / 4096) j m.0 m.1 in
         ap (λ b. not b && is_first_above log (at i e) due) (subst (λ n. has_poll whole n ≡ true) m.2 (has_due m.0 (inside m.0 k)))))
@@ -185,26 +149,33 @@ module _ (limit pages : ℕ) (image : List ℕ) (cause : Cause) (es : List Entry
     keeps_o3 = keeps (o3 log) (λ i l. on_entry (breaks_o3 log) o3_at i)
 
     -- numbers that count the entries before that have one are right
-    numbered_right : (number : Entry → Option ℕ) → ((j m : ℕ) (b : Entry) → slice_get whole j ≡ Some b → number b ≡ Some m → m ≡ count_by (λ x. is_some (number x)) (take j whole))
+    numbered_right : (number : Entry → Option ℕ)
+        → ((j m : ℕ) (b : Entry) → slice_get whole j ≡ Some b → number b ≡ Some m → m ≡ count_by (λ x. is_some (number x)) (take j whole))
         → (i : ℕ) (e : Entry) → slice_get whole i ≡ Some e → is_misnumbered number log (at i e) ≡ false
     numbered_right number counts i e is = some_and_false (number e) _ (λ n has.
         let n_is = counts i n e is has in
-        or_none _ _
-        (le_false (count_by (λ x. is_some (number x)) (whole ++ [])) n (subst (λ xs. n < count_by (λ x. is_some (number x)) xs) (sym (append-nil whole)) (let a = count_all (λ x. is_some (number x)) whole i e is (ap is_some has) in omega (arith, a, n_is))))
-        (none_pass _ (take i whole) (λ j b bt. let t = at_take whole i j b bt in some_and_false (number b) (λ m. m == n) (λ m has_m.
-        ne_eqb m n (λ same. let a = count_below (λ x. is_some (number x)) whole j i b t.1 (ap is_some has_m) t.0 in let m_is = counts j m b t.1 has_m in absurd (omega (arith, a, m_is, n_is, same)))))))
+        or_from _ _
+        (lt-leb (count_by (λ x. is_some (number x)) (whole ++ [])) n
+        (subst (λ xs. n < count_by (λ x. is_some (number x)) xs) (sym (append-nil whole))
+        (let a = count_all (λ x. is_some (number x)) whole i e is (ap is_some has) in omega (arith, a, n_is))))
+        (none_there _ (take i whole) (λ j b bt. let t = in_take whole i j b bt in some_and_false (number b) (λ m. m == n) (λ m has_m.
+        ne_eqb m n (λ same. let a = count_below (λ x. is_some (number x)) whole j i b t.1 (ap is_some has_m) t.0 in let m_is = counts j m b t.1 has_m in
+        absurd (omega (arith, a, m_is, n_is, same)))))))
 
     on_page_counts : (page : ℕ) (j m : ℕ) (b : Entry) → slice_get whole j ≡ Some b → number_on page b ≡ Some m → m ≡ count_by (on_page page) (take j whole)
     on_page_counts page j m b bt has = through (page_number b) refl has where
-      through : (o : Option (ℕ × ℕ)) → page_number b ≡ o → option_and_then (λ x. if x.0 == page then Some x.1 else None) o ≡ Some m → m ≡ count_by (on_page page) (take j whole)
+      through : (o : Option (ℕ × ℕ)) → page_number b ≡ o → option_and_then (λ x. if x.0 == page then Some x.1 else None) o ≡ Some m
+          → m ≡ count_by (on_page page) (take j whole)
       through None is e = absurd (none-some _ e)
       through (Some (p, k)) is e = elim (eqb_tells p page) [
-        | inl (t, same) ↦ sym (same_Some _ _ (sym (ap (λ x. if x then Some k else None) t) ∙ e)) ∙ (w.each j b bt).numbers page k (is ∙ ap (λ q. Some (q, k)) same)
+        | inl (t, same) ↦ sym (same_Some _ _ (sym (ap (λ x. if x then Some k else None) t) ∙ e))
+            ∙ (w.each j b bt).numbers page k (is ∙ ap (λ q. Some (q, k)) same)
         | inr (f, n) ↦ absurd (none-some _ (sym (ap (λ x. if x then Some k else None) f) ∙ e))
       ]
 
     pub keeps_o5 : Keeps log o5
-    keeps_o5 = keeps (o5 log) (λ i l. on_entry (breaks_o5 log) (λ i e is. some_and_false (page_number e) _ (λ p has. numbered_right (number_on p.0) (on_page_counts p.0) i e is)) i)
+    keeps_o5 = keeps (o5 log)
+        (λ i l. on_entry (breaks_o5 log) (λ i e is. some_and_false (page_number e) _ (λ p has. numbered_right (number_on p.0) (on_page_counts p.0) i e is)) i)
 
     ordinals_count : (j m : ℕ) (b : Entry) → slice_get whole j ≡ Some b → ordinal_of b ≡ Some m → m ≡ count_by has_ordinal (take j whole)
     ordinals_count j m b bt has = (w.each j b bt).ordinals m has
@@ -220,17 +191,20 @@ module _ (limit pages : ℕ) (image : List ℕ) (cause : Cause) (es : List Entry
       ] where
         not_behind : i < suc j → ⊥
         not_behind more = elim (eqb_tells i j) [
-          | inl (x, same) ↦ let a = ordinals_count j m b bt has in let k = ordinals_count i n e is ord in let s = ap (λ z. count_by has_ordinal (take z whole)) same in absurd (omega (arith, a, k, s, l))
-          | inr (x, other) ↦ let a = ordinals_count j m b bt has in let k = ordinals_count i n e is ord in let s = count_below has_ordinal whole i j e is (ap is_some ord) (omega (arith, more, other)) in absurd (omega (arith, a, k, s, l))
+          | inl (x, same) ↦ let a = ordinals_count j m b bt has in let k = ordinals_count i n e is ord in
+              let s = ap (λ z. count_by has_ordinal (take z whole)) same in absurd (omega (arith, a, k, s, l))
+          | inr (x, other) ↦ let a = ordinals_count j m b bt has in let k = ordinals_count i n e is ord in
+              let s = count_below has_ordinal whole i j e is (ap is_some ord) (omega (arith, more, other)) in absurd (omega (arith, a, k, s, l))
         ]
 
-      timed : time_before log m ≤ t → (j : ℕ) (b : Entry) → slice_get whole j ≡ Some b → j < i → (o : Option ℕ) → time_of b ≡ o → unwrap_or o (time_before log m) ≤ t
+      timed : time_before log m ≤ t → (j : ℕ) (b : Entry) → slice_get whole j ≡ Some b → j < i → (o : Option ℕ) → time_of b ≡ o
+          → unwrap_or o (time_before log m) ≤ t
       timed so_far j b bt less None has = so_far
-      timed so_far j b bt less (Some s) has = (w.each i e is).times j s t b (take_at whole i j b less bt) has time
+      timed so_far j b bt less (Some s) has = (w.each i e is).times j s t b ((get_take whole i j less ∙ bt)) has time
 
       found : time_before log m ≤ t → (b : Entry) → with_ordinal log m ≡ Some b → unwrap_or (time_of b) (time_before log m) ≤ t
       found so_far b f =
-          let p = find_at (λ x. is_number m (ordinal_of x)) (whole ++ []) b f in
+          let p = find_place (λ x. is_number m (ordinal_of x)) (whole ++ []) b f in
           let bt = subst (λ xs. slice_get xs p.0 ≡ Some b) (append-nil whole) p.1 in
           timed so_far p.0 b bt (earlier p.0 b bt (number_is (ordinal_of b) refl p.2)) (time_of b) refl
         where
@@ -238,13 +212,16 @@ module _ (limit pages : ℕ) (image : List ℕ) (cause : Cause) (es : List Entry
           number_is None is e = absurd (true≢false (sym e))
           number_is (Some k) is e = is ∙ ap Some (eqb-true k m e)
 
-      through : time_before log m ≤ t → (o : Option Entry) → with_ordinal log m ≡ o → unwrap_or (option_and_then time_of (with_ordinal log m)) (time_before log m) ≤ t
+      through : time_before log m ≤ t → (o : Option Entry) → with_ordinal log m ≡ o
+          → unwrap_or (option_and_then time_of (with_ordinal log m)) (time_before log m) ≤ t
       through so_far None f = subst (λ o. unwrap_or (option_and_then time_of o) (time_before log m) ≤ t) (sym f) so_far
       through so_far (Some b) f = subst (λ o. unwrap_or (option_and_then time_of o) (time_before log m) ≤ t) (sym f) (found so_far b f)
 
     o8_at : (i : ℕ) (e : Entry) → slice_get whole i ≡ Some e → breaks_o8 log (at i e) ≡ false
-    o8_at i e is = or_none _ _ (numbered_right ordinal_of ordinals_count i e is)
-        (and_false (ordinals_are_right log) _ (some_and_false (time_of e) _ (λ t time. some_and_false (ordinal_of e) _ (λ n ord. lt_false t (time_before log n) (times_rise i n t e is ord time n (omega arith))))))
+    o8_at i e is = or_from _ _ (numbered_right ordinal_of ordinals_count i e is)
+        (and_right (ordinals_are_right log) _
+        (some_and_false (time_of e) _
+        (λ t time. some_and_false (ordinal_of e) _ (λ n ord. le-ltb t (time_before log n) (times_rise i n t e is ord time n (omega arith))))))
 
     pub keeps_o8 : Keeps log o8
     keeps_o8 = keeps (o8 log) (λ i l. on_entry (breaks_o8 log) o8_at i)
@@ -252,7 +229,8 @@ module _ (limit pages : ℕ) (image : List ℕ) (cause : Cause) (es : List Entry
     -- with one hart there is nobody to wait for
     hart_is : (test : ℕ × Entry → Bool) (xs : List Entry) (g : ℕ) (b : Entry) → find test (map (λ e. (0, e)) xs ++ []) ≡ Some (g, b) → g ≡ 0
     hart_is test [] g b f = absurd (none-some _ f)
-    hart_is test (x ∷ xs) g b f = ⊎_elim (λ t. let p = t.1 in sym (ap (λ (z : ℕ × Entry). z.0) p)) (λ r. hart_is test xs g b r.1) (find_step {X = ℕ × Entry} (test (0, x)) (0, x) (g, b) (find test (map (λ e. (0, e)) xs ++ [])) f)
+    hart_is test (x ∷ xs) g b f = ⊎_elim (λ t. let p = t.1 in sym (ap (λ (z : ℕ × Entry). z.0) p)) (λ r. hart_is test xs g b r.1)
+        (find_step {X = ℕ × Entry} (test (0, x)) (0, x) (g, b) (find test (map (λ e. (0, e)) xs ++ [])) f)
 
     no_waits : (page k : ℕ) → waits_due log page 0 k ≡ []
     no_waits page zero = refl
@@ -260,7 +238,8 @@ module _ (limit pages : ℕ) (image : List ℕ) (cause : Cause) (es : List Entry
       none_after : (o : Option (ℕ × Entry)) → numbered log page k ≡ o → waits_after 0 [] o ≡ []
       none_after None f = refl
       none_after (Some (g, entries.Gain count p seq mode waits)) f = refl
-      none_after (Some (g, entries.Yield count p seq left)) f = ap (λ x. if x then [] else [] ++ record { hart = g; count = count } ∷ []) (eq-eqb g 0 (hart_is _ whole g (entries.Yield count p seq left) f))
+      none_after (Some (g, entries.Yield count p seq left)) f =
+          ap (λ x. if x then [] else [] ++ record { hart = g; count = count } ∷ []) (eq-eqb g 0 (hart_is _ whole g (entries.Yield count p seq left) f))
       none_after (Some (g, entries.Poll count ord time bits)) f = refl
       none_after (Some (g, entries.Touch count ord input)) f = refl
       none_after (Some (g, entries.End count)) f = refl

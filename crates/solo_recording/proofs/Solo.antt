@@ -1,6 +1,9 @@
 -- What one hart records is an orderly log, and the hart's own order obeys it and is full.
-use Rattle.std.proofs.Common.{◌≡◌, ℕ, zero, suc, ◌<◌, List, [], length, replicate, Some, None, slice_get, slice_index, refl, sym, ap, ◌∙◌, subst, arith, unwrap_or, true≢false}
+use Rattle.std.proofs.Common.{◌≡◌, ℕ, zero, suc, ◌<◌, List, [], length, replicate, None, refl, sym, ap, ◌∙◌, subst, arith, unwrap_or, true≢false}
 use Rattle.std.proofs.lemmas.Option.{none-some}
+use Rattle.std.proofs.lemmas.List.{length-replicate}
+use Rattle.crew_recording.proofs.Steady.{no_place}
+use Rattle.shared_types.proofs.Lists.{get_replicate}
 use Rattle.rv_words.specs.declared.shared.Cause.{Cause}
 use Rattle.log_entry.specs.declared.log.Entry.TheVariants as entries
 use Rattle.log_entry.specs.declared.log.Log.{Log}
@@ -10,30 +13,16 @@ use Rattle.replay_model.specs.Flat.{Flat}
 use Rattle.flat_machine.specs.declared.act.Act.TheVariants.{Run}
 use Rattle.order_rules.specs.Holders.{nobody, held}
 use Rattle.replay_model.specs.State.{start}
-use Rattle.replay_model.specs.Items.{Item, step}
+use Rattle.replay_model.specs.Items.{Item}
 use Rattle.replay_model.specs.Items as replay
 use Rattle.order_rules.specs.Laws.{Follow}
-use Rattle.solo_recording.specs.Recording.{Recording, IsClocked, Records, solo_log, first_recording}
-use Rattle.solo_recording.proofs.Prefix.{each_push}
+use Rattle.solo_recording.specs.Recording.{SoloRecording, IsClocked, Records, solo_log, first_recording}
+use Rattle.crew_recording.proofs.Prefix.{each_push}
 use Rattle.solo_recording.proofs.Fits.{Fits}
 use Rattle.solo_recording.proofs.Tidy.{IsTidy}
 use Rattle.solo_recording.proofs.Rules.{IsWhole, keeps_o1, keeps_o2, keeps_o3, keeps_o4, keeps_o5, keeps_o7, keeps_o8, keeps_o6_by}
-use Rattle.solo_recording.proofs.Obeying.{tidy_all, full}
-use Rattle.solo_recording.proofs.Taking.{crew_from, taken_all}
-
-get_replicate : {X : Type 0} (n i : ℕ) (x : X) → i < n → slice_get (replicate n x) i ≡ Some x
-get_replicate zero i x l = absurd (omega (arith, l))
-get_replicate (suc n) zero x l = refl
-get_replicate (suc n) (suc i) x l = get_replicate n i x (omega (arith, l))
-
-index_replicate : (n i : ℕ) → slice_index (replicate n 0) i ≡ 0
-index_replicate zero i = refl
-index_replicate (suc n) zero = refl
-index_replicate (suc n) (suc i) = index_replicate n i
-
-length_replicate : {X : Type 0} (n : ℕ) (x : X) → length (replicate n x) ≡ n
-length_replicate zero x = refl
-length_replicate (suc n) x = ap suc (length_replicate n x)
+use Rattle.solo_recording.proofs.Obedience.{tidy_all, full}
+use Rattle.solo_recording.proofs.Takings.{crew_from, taken_all}
 
 nobody_holds : (pages page h : ℕ) → held (nobody pages 1) page h ≡ None
 nobody_holds zero page h = refl
@@ -55,12 +44,12 @@ module _ {S V : Type 0} (flat : Flat S V) (Good : S → Type 0) (clocked : IsClo
     times = λ i t e at. absurd (none-some _ at);
     place = refl;
     bounded = omega (arith, none);
-    holders = length_replicate pages (replicate 1 None);
+    holders = length-replicate pages (replicate 1 None);
     rows = λ page l. subst (λ o. 0 < length (unwrap_or o [])) (sym (get_replicate pages page (replicate 1 None) l)) (omega arith);
   }
 
 module _ {S V : Type 0} (flat : Flat S V) (Good : S → Type 0) (clocked : IsClocked flat Good) (limit pages : ℕ) (image : List ℕ) (cause : Cause) where
-  last_fits : (s : Recording S) → IsTidy flat Good limit pages s → IsWhole limit pages image cause s.stream (flat.count s.at.flat 0)
+  last_fits : (s : SoloRecording S) → IsTidy flat Good limit pages s → IsWhole limit pages image cause s.stream (flat.count s.at.flat 0)
   last_fits s tidy = record {
     each = each_push (Fits limit) s.stream (entries.End (flat.count s.at.flat 0)) tidy.each (record {
       rises = tidy.below;
@@ -77,10 +66,11 @@ module _ {S V : Type 0} (flat : Flat S V) (Good : S → Type 0) (clocked : IsClo
     bounded = tidy.bounded;
   }
 
-  abbrev log : Recording S → Log
+  abbrev log : SoloRecording S → Log
   log s = solo_log pages limit image cause s.stream (flat.count s.at.flat 0)
 
-  module _ (first : S) (good : Good first) (none : flat.count first 0 ≡ 0) (s : Recording S) (items : List Item) (is : Records flat limit (first_recording pages first) items s) where
+  module _ (first : S) (good : Good first) (none : flat.count first 0 ≡ 0) (s : SoloRecording S) (items : List Item)
+      (is : Records flat limit (first_recording pages first) items s) where
     tidy : IsTidy flat Good limit pages s
     tidy = tidy_all flat Good clocked limit pages (first_recording pages first) s items is (first_tidy flat Good clocked limit pages first good none)
 
@@ -88,7 +78,7 @@ module _ {S V : Type 0} (flat : Flat S V) (Good : S → Type 0) (clocked : IsClo
     whole = last_fits s tidy
 
     follow : Follow (log s) (nobody pages 1) (replicate pages 0)
-    follow page h = nobody_holds pages page h ∙ sym (ap (rules.held (log s) page h) (index_replicate pages page))
+    follow page h = nobody_holds pages page h ∙ sym (ap (rules.held (log s) page h) (no_place pages page))
 
     pub orderly : IsOrderly (log s)
     orderly = record {
@@ -98,11 +88,15 @@ module _ {S V : Type 0} (flat : Flat S V) (Good : S → Type 0) (clocked : IsClo
       touches_go_on = keeps_o4 limit pages image cause s.stream (flat.count s.at.flat 0) whole;
       pages_are_numbered = keeps_o5 limit pages image cause s.stream (flat.count s.at.flat 0) whole;
       holders_are_crew = keeps_o6_by limit pages image cause s.stream (flat.count s.at.flat 0) (λ i e at.
-          crew_from flat Good clocked limit pages image cause (first_recording pages first) s items is (first_tidy flat Good clocked limit pages first good none) (keeps_o5 limit pages image cause s.stream (flat.count s.at.flat 0) whole) follow i e (omega arith) at);
+          crew_from flat Good clocked limit pages image cause (first_recording pages first) s items is
+          (first_tidy flat Good clocked limit pages first good none) (keeps_o5 limit pages image cause s.stream (flat.count s.at.flat 0) whole) follow i e
+          (omega arith) at);
       gains_name_their_waits = keeps_o7 limit pages image cause s.stream (flat.count s.at.flat 0) whole;
       ordinals_and_times_rise = keeps_o8 limit pages image cause s.stream (flat.count s.at.flat 0) whole;
-      least_order_takes_all = let t = taken_all flat Good clocked limit pages image cause (first_recording pages first) s items is (first_tidy flat Good clocked limit pages first good none) in (t.0, (t.1, t.2, t.3));
+      least_order_takes_all = let t = taken_all flat Good clocked limit pages image cause (first_recording pages first) s items is
+          (first_tidy flat Good clocked limit pages first good none) in (t.0, (t.1, t.2, t.3));
     }
 
     pub obeyed : ((h : ℕ) → flat.next s.at.flat (Run (suc h)) ≡ None) → replay.IsFullOrder flat (log s) (start (log s) first) (replicate (length items) 0) s.at
-    obeyed alone = full flat Good clocked limit pages image cause (first_recording pages first) s items is (first_tidy flat Good clocked limit pages first good none) alone
+    obeyed alone = full flat Good clocked limit pages image cause (first_recording pages first) s items is
+        (first_tidy flat Good clocked limit pages first good none) alone

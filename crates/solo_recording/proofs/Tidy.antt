@@ -1,7 +1,8 @@
 -- What holds of a recording of one hart at each moment.
-use Rattle.std.proofs.Common.{◌≡◌, ℕ, ◌+◌, ◌*◌, ◌%◌, ◌<◌, ◌≤◌, ◌==◌, ◌&&◌, Bool, true, false, List, [], ◌∷◌, ◌++◌, length, Some, slice_get, count_by, refl, sym, ap, ◌∙◌, subst, inl, inr, ⊎_elim, arith, if◌then◌else◌, true≢false}
-use Rattle.std.proofs.lemmas.Bool.{eqb-true}
+use Rattle.std.proofs.Common.{◌≡◌, ℕ, ◌+◌, ◌*◌, ◌%◌, ◌<◌, ◌≤◌, ◌==◌, ◌&&◌, true, false, List, [], ◌∷◌, ◌++◌, length, Some, slice_get, count_by, sym, ap, ◌∙◌, subst, inl, inr, ⊎_elim, arith}
+use Rattle.std.proofs.lemmas.Bool.{eqb-true, false_from_ne_true}
 use Rattle.std.proofs.lemmas.Bool.Decides.{eqb_tells}
+use Rattle.shared_types.proofs.Lists.{at_one_more, one_passes}
 use Rattle.log_entry.specs.declared.log.Entry.{Entry}
 use Rattle.log_entry.specs.Parts.{count_of, is_end, is_poll, is_touch, time_of}
 use Rattle.order_rules.specs.Places.{is_number}
@@ -9,30 +10,17 @@ use Rattle.order_rules.specs.Cursor.{Cursor}
 use Rattle.order_rules.specs.Rules.{has_poll}
 use Rattle.replay_model.specs.Flat.{Flat}
 use Rattle.order_rules.specs.Holders.{Holders, row}
-use Rattle.replay_model.specs.Items.{Verdict, CanGo, Holds}
-use Rattle.solo_recording.specs.Recording.{Recording, IsPolled}
-use Rattle.solo_recording.proofs.Prefix.{EachAfter, each_push, at_snoc, one_passes}
+use Rattle.solo_recording.specs.Recording.{SoloRecording}
+use Rattle.crew_recording.specs.Allowed.{IsPolled}
+use Rattle.crew_recording.proofs.Prefix.{EachAfter, each_push}
 use Rattle.solo_recording.proofs.Fits.{Fits, on_page, has_ordinal}
-
-pub never : (b : Bool) → (b ≡ true → ⊥) → b ≡ false
-never true f = absurd (f refl)
-never false f = refl
-
-abbrev is_go : Verdict → Bool
-is_go CanGo = true
-is_go _ = false
-
--- an item that can go has its guard met
-pub met : (b : Bool) (v : Verdict) → (if b then v else Holds) ≡ CanGo → b ≡ true
-met true v e = refl
-met false v e = absurd (true≢false (sym (ap is_go e)))
 
 -- a number that is there and passes for this one is it
 pub is_it : (n m : ℕ) → is_number n (Some m) ≡ true → m ≡ n
 is_it n m e = eqb-true m n e
 
 module _ {S V : Type 0} (flat : Flat S V) (Good : S → Type 0) (limit pages : ℕ) where
-  pub record IsTidy (r : Recording S) : Type 0 where
+  pub record IsTidy (r : SoloRecording S) : Type 0 where
     pub good : Good r.at.flat
     pub each : EachAfter (Fits limit) r.stream
     pub ends : (i : ℕ) (e : Entry) → slice_get r.stream i ≡ Some e → is_end e ≡ false
@@ -48,14 +36,16 @@ module _ {S V : Type 0} (flat : Flat S V) (Good : S → Type 0) (limit pages : �
     pub rows : (page : ℕ) → page < pages → 0 < length (row r.at.holders page)
 
   -- the Polls due below the next count are there, once the one at this count is
-  pub due_next : (stream : List Entry) (count : ℕ) → ((k : ℕ) → k * 4096 < count → has_poll stream (k * 4096) ≡ true) → IsPolled stream count → (k : ℕ) → k * 4096 < count + 1 → has_poll stream (k * 4096) ≡ true
+  pub due_next : (stream : List Entry) (count : ℕ) → ((k : ℕ) → k * 4096 < count → has_poll stream (k * 4096) ≡ true) → IsPolled stream count → (k : ℕ)
+      → k * 4096 < count + 1 → has_poll stream (k * 4096) ≡ true
   due_next stream count due polled k l = elim (eqb_tells (k * 4096) count) [
     | inl (t, same) ↦ subst (λ n. has_poll stream n ≡ true) (sym same) (polled (subst (λ n. n % 4096 ≡ 0) same (omega arith)))
     | inr (f, other) ↦ due k (omega (arith, l, other))
   ]
 
   -- a move leaves the stream, and raises the count
-  pub tidy_move : (r : Recording S) (f : S) → IsTidy r → Good f → flat.count f 0 ≡ flat.count r.at.flat 0 + 1 → flat.time r.at.flat ≤ flat.time f → flat.count r.at.flat 0 < limit → IsPolled r.stream (flat.count r.at.flat 0)
+  pub tidy_move : (r : SoloRecording S) (f : S) → IsTidy r → Good f → flat.count f 0 ≡ flat.count r.at.flat 0 + 1 → flat.time r.at.flat ≤ flat.time f
+      → flat.count r.at.flat 0 < limit → IsPolled r.stream (flat.count r.at.flat 0)
       → IsTidy (record { at = record r.at { flat = f }; stream = r.stream })
   tidy_move r f tidy good up later less polled = record {
     good = good;
@@ -74,7 +64,7 @@ module _ {S V : Type 0} (flat : Flat S V) (Good : S → Type 0) (limit pages : �
   }
 
   -- an entry was made: the flat state is f then, which may have a greater count
-  pub tidy_entry : (r : Recording S) (e : Entry) (f : S) (table : Holders) (cursor : Cursor) → IsTidy r → Good f → Fits limit r.stream e → is_end e ≡ false
+  pub tidy_entry : (r : SoloRecording S) (e : Entry) (f : S) (table : Holders) (cursor : Cursor) → IsTidy r → Good f → Fits limit r.stream e → is_end e ≡ false
       → flat.count r.at.flat 0 ≤ flat.count f 0 → count_of e ≤ flat.count f 0 → (is_touch e ≡ true → count_of e < flat.count f 0)
       → ((k : ℕ) → k * 4096 < flat.count f 0 → has_poll r.stream (k * 4096) ≡ true)
       → flat.time r.at.flat ≤ flat.time f → ((t : ℕ) → time_of e ≡ Some t → t ≤ flat.time f)
@@ -85,16 +75,18 @@ module _ {S V : Type 0} (flat : Flat S V) (Good : S → Type 0) (limit pages : �
   tidy_entry r e f table cursor tidy good fits no_end up here touch due later time numbers ordinal place bounded size rows = record {
     good = good;
     each = each_push (Fits limit) r.stream e tidy.each fits;
-    ends = λ i x at. ⊎_elim (λ l. tidy.ends i x l.1) (λ s. subst (λ z. is_end z ≡ false) s.1 no_end) (at_snoc r.stream e x i at);
-    below = λ i x at. ⊎_elim (λ l. let b = tidy.below i x l.1 in omega (arith, b, up)) (λ s. subst (λ z. count_of z ≤ flat.count f 0) s.1 here) (at_snoc r.stream e x i at);
+    ends = λ i x at. ⊎_elim (λ l. tidy.ends i x l.1) (λ s. subst (λ z. is_end z ≡ false) s.1 no_end) (at_one_more r.stream e x i at);
+    below = λ i x at. ⊎_elim (λ l. let b = tidy.below i x l.1 in omega (arith, b, up)) (λ s. subst (λ z. count_of z ≤ flat.count f 0) s.1 here)
+        (at_one_more r.stream e x i at);
     touched = λ i x at same. ⊎_elim
         (λ l. let b = tidy.below i x l.1 in tidy.touched i x l.1 (omega (arith, b, up, same)))
-        (λ s. never (is_touch x) (λ t. let less = touch (ap is_touch s.1 ∙ t) in let c = ap count_of s.1 in absurd (omega (arith, less, same, c))))
-        (at_snoc r.stream e x i at);
+        (λ s. false_from_ne_true (is_touch x) (λ t. let less = touch (ap is_touch s.1 ∙ t) in let c = ap count_of s.1 in absurd (omega (arith, less, same, c))))
+        (at_one_more r.stream e x i at);
     due = λ k l. one_passes (λ x. is_poll x && (count_of x == k * 4096)) r.stream (e ∷ []) (due k l);
     numbers = numbers;
     ordinal = ordinal;
-    times = λ i t x at is. ⊎_elim (λ l. let b = tidy.times i t x l.1 is in omega (arith, b, later)) (λ s. time t (ap time_of s.1 ∙ is)) (at_snoc r.stream e x i at);
+    times = λ i t x at is. ⊎_elim (λ l. let b = tidy.times i t x l.1 is in omega (arith, b, later)) (λ s. time t (ap time_of s.1 ∙ is))
+        (at_one_more r.stream e x i at);
     place = place;
     bounded = bounded;
     holders = size;

@@ -1,11 +1,12 @@
 -- What one hart records: items made one after another, and the entries that they leave in its stream (docs/recorder.md).
-use Rattle.std.specs.Prelude.{false, ℕ, ◌≡◌, ◌≢◌, ◌+◌, ◌%◌, ◌<◌, ◌≤◌, true, List, [], ◌∷◌, ◌++◌, slice_get, Some, length, replicate}
+use Rattle.std.specs.Prelude.{false, ℕ, ◌≡◌, ◌≢◌, ◌+◌, ◌%◌, ◌<◌, ◌≤◌, List, [], ◌∷◌, ◌++◌, slice_get, Some, length, replicate}
 use Rattle.rv_words.specs.declared.shared.Cause.{Cause}
 use Rattle.log_entry.specs.declared.log.Entry.{Entry}
 use Rattle.log_entry.specs.declared.log.Entry.TheVariants as entries
 use Rattle.log_entry.specs.declared.log.Log.{Log}
 use Rattle.log_entry.specs.Parts.{count_of}
-use Rattle.order_rules.specs.Rules.{has_poll}
+use Rattle.rv_words.specs.Limits.{poll_distance}
+use Rattle.crew_recording.specs.Allowed.{IsPolled}
 use Rattle.rv_words.specs.declared.shared.Input.{Input}
 use Rattle.rv_words.specs.declared.shared.Input.TheVariants.{Time}
 use Rattle.replay_model.specs.Flat.{Flat}
@@ -16,7 +17,7 @@ use Rattle.replay_model.specs.State.{Replay, want}
 use Rattle.replay_model.specs.Items.{Item, Ended, Move, Makes, CanGo, verdict_on, made}
 
 -- a state of the run, and the hart's entries so far
-pub record Recording (S : Type 0) : Type 0 where
+pub record SoloRecording (S : Type 0) : Type 0 where
   pub at : Replay S
   pub stream : List Entry
 
@@ -24,10 +25,6 @@ pub record Recording (S : Type 0) : Type 0 where
 abbrev pub with_item : Item → List Entry → List Entry
 with_item (Makes e) stream = stream ++ e ∷ []
 with_item _ stream = stream
-
--- where a Poll is due at a count, the stream has it
-abbrev pub IsPolled : List Entry → ℕ → Type 0
-IsPolled stream count = count % 4096 ≡ 0 → has_poll stream count ≡ true
 
 -- no entry stands at that count
 abbrev pub NoneAt : List Entry → ℕ → Type 0
@@ -45,23 +42,23 @@ pub record IsClocked {S V : Type 0} (flat : Flat S V) (Good : S → Type 0) : Ty
   pub poll_time : (s t : S) (time : ℕ) → Good s → flat.next s (Poll 0 time) ≡ Some t → (flat.time s ≤ time) × (flat.time t ≡ time)
 
 module _ {S V : Type 0} (flat : Flat S V) (limit : ℕ) where
-  abbrev pub now : Recording S → ℕ
+  abbrev pub now : SoloRecording S → ℕ
   now r = flat.count r.at.flat 0
 
   -- a move below the limit, its Poll made; a Poll at its due count before any other entry there; a Gain of what is wanted,
   -- without waits, below the limit and after the Poll
-  abbrev pub Allowed : Recording S → Item → Type 0
+  abbrev pub Allowed : SoloRecording S → Item → Type 0
   Allowed r Ended = ⊥
   Allowed r Move = (now r < limit) × IsPolled r.stream (now r)
   Allowed r (Makes (entries.Gain count page seq mode waits)) =
       (count ≡ now r) × (waits.items ≡ []) × (want flat r.at 0 ≡ Some (page, mode)) × (page < length r.at.holders) × (count < limit) × IsPolled r.stream count
   Allowed r (Makes (entries.Yield count page seq left)) = ⊥
-  Allowed r (Makes (entries.Poll count ord time bits)) = (count ≡ now r) × (count < limit) × (count % 4096 ≡ 0) × NoneAt r.stream count
+  Allowed r (Makes (entries.Poll count ord time bits)) = (count ≡ now r) × (count < limit) × (count % poll_distance ≡ 0) × NoneAt r.stream count
   Allowed r (Makes (entries.Touch count ord input)) = (count ≡ now r) × (count < limit) × IsPolled r.stream count
   Allowed r (Makes (entries.End count)) = ⊥
 
   -- an item is made while stop isn't set
-  pub record IsRecorded (r : Recording S) (item : Item) (s : Recording S) : Type 0 where
+  pub record IsRecorded (r : SoloRecording S) (item : Item) (s : SoloRecording S) : Type 0 where
     pub running : flat.is_stopped r.at.flat ≡ false
     pub allowed : Allowed r item
     pub goes : verdict_on flat r.at 0 item ≡ CanGo
@@ -69,9 +66,9 @@ module _ {S V : Type 0} (flat : Flat S V) (limit : ℕ) where
     pub stream : s.stream ≡ with_item item r.stream
 
   -- these items, one after another
-  abbrev pub Records : Recording S → List Item → Recording S → Type 0
+  abbrev pub Records : SoloRecording S → List Item → SoloRecording S → Type 0
   Records r [] s = r ≡ s
-  Records r (item ∷ items) s = (m : Recording S) × IsRecorded r item m × Records m items s
+  Records r (item ∷ items) s = (m : SoloRecording S) × IsRecorded r item m × Records m items s
 
 -- the log of one hart that ended at a count
 abbrev pub solo_log : ℕ → ℕ → List ℕ → Cause → List Entry → ℕ → Log
@@ -79,10 +76,13 @@ solo_log pages limit image cause stream count =
     record { pages = pages; limit = limit; image = image; streams = (stream ++ entries.End count ∷ []) ∷ []; cause = cause }
 
 -- where a recording begins: nothing is held, and nothing was recorded
-abbrev pub first_recording : {S : Type 0} → ℕ → S → Recording S
+abbrev pub first_recording : {S : Type 0} → ℕ → S → SoloRecording S
 first_recording pages first =
-    record { at = record { flat = first; cursor = record { places = 0 ∷ []; numbers = replicate pages 0; ordinal = 0 }; holders = nobody pages 1 }; stream = [] }
+    record {
+      at = record { flat = first; cursor = record { places = 0 ∷ []; numbers = replicate pages 0; ordinal = 0 }; holders = nobody pages 1 };
+      stream = [];
+    }
 
 -- the log of a recording
-abbrev pub log_of_recording : {S V : Type 0} → Flat S V → ℕ → ℕ → List ℕ → Cause → Recording S → Log
+abbrev pub log_of_recording : {S V : Type 0} → Flat S V → ℕ → ℕ → List ℕ → Cause → SoloRecording S → Log
 log_of_recording flat limit pages image cause r = solo_log pages limit image cause r.stream (flat.count r.at.flat 0)

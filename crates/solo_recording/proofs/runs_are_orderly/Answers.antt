@@ -7,7 +7,11 @@ use Rattle.solo_recording.proofs.runs_are_orderly.Goals as goal
 
 pub returns : goal.returns
 returns c = record {
-  orderly = λ limit pages image cause first items r run. orderly board IsLone clocked limit pages image cause first run.lone run.unmoved r items run.recorded;
-  obeyed = λ limit pages image cause first items r run. obeyed board IsLone clocked limit pages image cause first run.lone run.unmoved r items run.recorded (λ h. alone r.at.flat (stays_lone limit pages first r items run.lone run.unmoved run.recorded) h);
-  replayed = λ limit pages image cause first items r run agrees. replayed board IsLone clocked limit pages image cause first run.lone run.unmoved r items run.recorded agrees;
+  orderly = λ unit limit pages image cause first items r run. orderly (board unit) IsLone
+      (clocked unit) limit pages image cause first run.lone run.unmoved r items run.recorded;
+  obeyed = λ unit limit pages image cause first items r run. obeyed (board unit) IsLone
+      (clocked unit) limit pages image cause first run.lone run.unmoved r items run.recorded
+      (λ h. alone unit r.at.flat (stays_lone unit limit pages first r items run.lone run.unmoved run.recorded) h);
+  replayed = λ unit limit pages image cause first items r run agrees. replayed (board unit) IsLone
+      (clocked unit) limit pages image cause first run.lone run.unmoved r items run.recorded agrees;
 }

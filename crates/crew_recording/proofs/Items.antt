@@ -1,9 +1,10 @@
 -- What one item leaves: the flat state goes on, and the hart's stream grows.
 use Rattle.std.proofs.Common.{◌≡◌, ◌≢◌, ℕ, ◌+◌, ◌<◌, ◌≤◌, Bool, true, false, List, [], ◌∷◌, ◌++◌, length, Option, Some, slice_set, slice_index, refl, sym, ap, ◌∙◌, subst, inl, inr, ◌⊎◌, ◌==◌, arith, if◌then◌else◌}
 use Rattle.std.specs.Option.{option_map}
-use Rattle.std.proofs.lemmas.Option.{none-some, same_Some}
+use Rattle.std.proofs.lemmas.Option.{none-some, same_Some, get_or_from_slice_get}
 use Rattle.std.proofs.lemmas.Bool.Decides.{eqb_tells}
-use Rattle.std.proofs.lemmas.List.{length_push}
+use Rattle.std.proofs.lemmas.List.{length_push, get_or-set_other, length-set}
+use Rattle.shared_types.proofs.Lists.{mapped, set_here}
 use Rattle.rv_words.specs.declared.shared.Mode.{Mode}
 use Rattle.log_entry.specs.declared.log.Entry.{Entry}
 use Rattle.log_entry.specs.declared.log.Entry.TheVariants as entries
@@ -13,9 +14,8 @@ use Rattle.flat_machine.specs.declared.act.Act.TheVariants.{Run, Touch, Poll, Lo
 use Rattle.replay_model.specs.Flat.{Flat}
 use Rattle.replay_model.specs.State.{Replay}
 use Rattle.replay_model.specs.Items.{Item, Ended, Move, Makes, acted, effect, past, holds, ends_reservation, made}
-use Rattle.replay_model.proofs.Driving.{mapped}
 use Rattle.crew_recording.specs.Recording.{Recording, IsSteady, IsRecorded, with_item, stream_in}
-use Rattle.crew_recording.proofs.Streams.{set_here, set_size, index_is, index_there, stream_here, stream_there}
+use Rattle.crew_recording.proofs.Streams.{stream_here, stream_there}
 
 module _ {S V : Type 0} (flat : Flat S V) (harts : ℕ) (Good : S → Type 0) (steady : IsSteady flat harts Good) where
   -- the flat state stays good, and no count falls
@@ -35,7 +35,8 @@ module _ {S V : Type 0} (flat : Flat S V) (harts : ℕ) (Good : S → Type 0) (s
   aside : (s t u : Replay S) → u.flat ≡ t.flat → GoesOn s t → GoesOn s u
   aside s t u e on = record { good = subst Good (sym e) on.good; rises = λ h. let r = on.rises h in let c = ap (λ f. flat.count f h) e in omega (arith, r, c) }
 
-  by_yield : (s t : Replay S) (h page : ℕ) (left : Option Mode) (b : Bool) → Good s.flat → option_map (holds flat page h left) (if b then acted flat s (Lose h) else Some s) ≡ Some t → GoesOn s t
+  by_yield : (s t : Replay S) (h page : ℕ) (left : Option Mode) (b : Bool) → Good s.flat
+      → option_map (holds flat page h left) (if b then acted flat s (Lose h) else Some s) ≡ Some t → GoesOn s t
   by_yield s t h page left true good e =
       let a = mapped (holds flat page h left) (acted flat s (Lose h)) t e in
       aside s a.0 t (sym (ap (λ (x : Replay S). x.flat) a.2)) (by_act s a.0 (Lose h) good a.1)
@@ -76,7 +77,8 @@ module _ {S V : Type 0} (flat : Flat S V) (harts : ℕ) (Good : S → Type 0) (s
   pub same_places : (s t : Replay S) (act : Act) → acted flat s act ≡ Some t → t.cursor ≡ s.cursor
   same_places s t act e = sym (ap (λ (x : Replay S). x.cursor) (mapped (λ (f : S). record s { flat = f }) (flat.next s.flat act) t e).2)
 
-  yield_places : (s t : Replay S) (h page : ℕ) (left : Option Mode) (b : Bool) → option_map (holds flat page h left) (if b then acted flat s (Lose h) else Some s) ≡ Some t → t.cursor ≡ s.cursor
+  yield_places : (s t : Replay S) (h page : ℕ) (left : Option Mode) (b : Bool)
+      → option_map (holds flat page h left) (if b then acted flat s (Lose h) else Some s) ≡ Some t → t.cursor ≡ s.cursor
   yield_places s t h page left true e =
       let a = mapped (holds flat page h left) (acted flat s (Lose h)) t e in
       sym (ap (λ (x : Replay S). x.cursor) a.2) ∙ same_places s a.0 (Lose h) a.1
@@ -101,28 +103,33 @@ module _ {S V : Type 0} (flat : Flat S V) (harts : ℕ) (Good : S → Type 0) (s
     good = (by_item r.at s.at h item tidy.good is.made).good;
     streams = ap (λ (x : List (List Entry)). length x) is.streams ∙ size item ∙ tidy.streams;
     places = ap (λ (x : List ℕ). length x) (item_places r.at s.at h item is.made) ∙ places_size item ∙ tidy.places;
-    place = λ g l. ap (λ ps. slice_index ps g) (item_places r.at s.at h item is.made) ∙ at_place item g l (eqb_tells g h) ∙ ap (λ xs. length (stream_in xs g)) (sym is.streams);
+    place = λ g l. ap (λ ps. slice_index ps g) (item_places r.at s.at h item is.made) ∙ at_place item g l (eqb_tells g h)
+        ∙ ap (λ xs. length (stream_in xs g)) (sym is.streams);
   }
     where
       size : (i : Item) → length (with_item h i r.streams) ≡ length r.streams
       size Ended = refl
       size Move = refl
-      size (Makes e) = set_size r.streams h (stream_in r.streams h ++ e ∷ [])
+      size (Makes e) = length-set r.streams h (stream_in r.streams h ++ e ∷ [])
 
       places_size : (i : Item) → length (places_after h i r.at.cursor.places) ≡ length r.at.cursor.places
       places_size Ended = refl
       places_size Move = refl
-      places_size (Makes e) = set_size r.at.cursor.places h (slice_index r.at.cursor.places h + 1)
+      places_size (Makes e) = length-set r.at.cursor.places h (slice_index r.at.cursor.places h + 1)
 
-      at_place : (i : Item) (g : ℕ) → g < harts → (((g == h) ≡ true) × (g ≡ h)) ⊎ (((g == h) ≡ false) × (g ≢ h)) → slice_index (places_after h i r.at.cursor.places) g ≡ length (stream_in (with_item h i r.streams) g)
+      at_place : (i : Item) (g : ℕ) → g < harts → (((g == h) ≡ true) × (g ≡ h)) ⊎ (((g == h) ≡ false) × (g ≢ h))
+          → slice_index (places_after h i r.at.cursor.places) g ≡ length (stream_in (with_item h i r.streams) g)
       at_place Ended g l d = tidy.place g l
       at_place Move g l d = tidy.place g l
-      at_place (Makes e) g l (inr (f, n)) = index_there r.at.cursor.places h g (slice_index r.at.cursor.places h + 1) n ∙ tidy.place g l ∙ ap (λ (x : List Entry). length x) (sym (stream_there r.streams h g (stream_in r.streams h ++ e ∷ []) n))
+      at_place (Makes e) g l (inr (f, n)) = get_or-set_other r.at.cursor.places h g (slice_index r.at.cursor.places h + 1) 0 n ∙ tidy.place g l
+          ∙ ap (λ (x : List Entry). length x) (sym (stream_there r.streams h g (stream_in r.streams h ++ e ∷ []) n))
       at_place (Makes e) g l (inl (t, same)) =
           let inside : h < length r.at.cursor.places = (let a = tidy.places in omega (arith, a, l, same)) in
           let there : h < length r.streams = (let a = tidy.streams in omega (arith, a, l, same)) in
-          subst (λ k. slice_index (slice_set r.at.cursor.places h (slice_index r.at.cursor.places h + 1)) k ≡ length (stream_in (slice_set r.streams h (stream_in r.streams h ++ e ∷ [])) k)) (sym same)
-          (index_is (slice_set r.at.cursor.places h (slice_index r.at.cursor.places h + 1)) h (slice_index r.at.cursor.places h + 1) (set_here r.at.cursor.places h (slice_index r.at.cursor.places h + 1) inside)
+          subst (λ k. slice_index (slice_set r.at.cursor.places h (slice_index r.at.cursor.places h + 1)) k ≡ length
+          (stream_in (slice_set r.streams h (stream_in r.streams h ++ e ∷ [])) k)) (sym same)
+          (get_or_from_slice_get (slice_set r.at.cursor.places h (slice_index r.at.cursor.places h + 1)) h (slice_index r.at.cursor.places h + 1) 0
+          (set_here r.at.cursor.places h (slice_index r.at.cursor.places h + 1) inside)
           ∙ ap (λ k. k + 1) (tidy.place h (omega (arith, l, same)))
           ∙ sym (length_push (stream_in r.streams h) e)
           ∙ ap (λ (x : List Entry). length x) (sym (stream_here r.streams h (stream_in r.streams h ++ e ∷ []) there)))

@@ -2,6 +2,8 @@
 use Rattle.std.proofs.Common.{◌≡◌, ℕ, zero, suc, ◌+◌, ◌<◌, Bool, true, false, List, [], ◌∷◌, ◌++◌, length, Option, Some, slice_set, refl, sym, ◌∙◌, subst, if◌then◌else◌}
 use Rattle.std.specs.Option.{option_map}
 use Rattle.std.proofs.lemmas.Option.{none-some, same_Some}
+use Rattle.std.proofs.lemmas.List.{length-set}
+use Rattle.shared_types.proofs.Lists.{mapped}
 use Rattle.rv_words.specs.declared.shared.Mode.{Mode}
 use Rattle.log_entry.specs.declared.log.Entry.{Entry}
 use Rattle.log_entry.specs.declared.log.Entry.TheVariants as entries
@@ -12,9 +14,7 @@ use Rattle.replay_model.specs.Flat.{Flat}
 use Rattle.order_rules.specs.Holders.{Holders, row, with_held}
 use Rattle.replay_model.specs.State.{Replay}
 use Rattle.replay_model.specs.Items.{Item, Ended, Move, Makes, acted, effect, past, holds, ends_reservation, made}
-use Rattle.replay_model.proofs.Driving.{mapped}
 use Rattle.crew_recording.specs.Recording.{Recording, Records}
-use Rattle.crew_recording.proofs.Streams.{set_size}
 
 -- the numbers and the holders are of so many pages and harts
 pub record Fits (harts pages : ℕ) (numbers : List ℕ) (holders : Holders) : Type 0 where
@@ -29,16 +29,17 @@ row_size (x ∷ hs) zero (suc q) r e = refl
 row_size (x ∷ hs) (suc p) zero r e = refl
 row_size (x ∷ hs) (suc p) (suc q) r e = row_size hs p q r e
 
-held_fits : (harts pages : ℕ) (numbers : List ℕ) (holders : Holders) (page h : ℕ) (hold : Option Mode) → Fits harts pages numbers holders → Fits harts pages numbers (with_held holders page h hold)
+held_fits : (harts pages : ℕ) (numbers : List ℕ) (holders : Holders) (page h : ℕ) (hold : Option Mode) → Fits harts pages numbers holders
+    → Fits harts pages numbers (with_held holders page h hold)
 held_fits harts pages numbers holders page h hold fits = record {
   numbers_size = fits.numbers_size;
-  holders_size = set_size holders page (slice_set (row holders page) h hold) ∙ fits.holders_size;
-  rows = λ q l. row_size holders page q (slice_set (row holders page) h hold) (set_size (row holders page) h hold) ∙ fits.rows q l;
+  holders_size = length-set holders page (slice_set (row holders page) h hold) ∙ fits.holders_size;
+  rows = λ q l. row_size holders page q (slice_set (row holders page) h hold) (length-set (row holders page) h hold) ∙ fits.rows q l;
 }
 
 numbers_fit : (harts pages : ℕ) (c : Cursor) (e : Entry) → length (counted c e).numbers ≡ length c.numbers
-numbers_fit harts pages c (entries.Gain count page seq mode waits) = set_size c.numbers page (seq + 1)
-numbers_fit harts pages c (entries.Yield count page seq left) = set_size c.numbers page (seq + 1)
+numbers_fit harts pages c (entries.Gain count page seq mode waits) = length-set c.numbers page (seq + 1)
+numbers_fit harts pages c (entries.Yield count page seq left) = length-set c.numbers page (seq + 1)
 numbers_fit harts pages c (entries.Poll count ord time bits) = refl
 numbers_fit harts pages c (entries.Touch count ord input) = refl
 numbers_fit harts pages c (entries.End count) = refl
@@ -50,14 +51,16 @@ module _ {S V : Type 0} (flat : Flat S V) (harts pages : ℕ) where
   by_act : (s t : Replay S) (act : Act) → FitsAt s → acted flat s act ≡ Some t → FitsAt t
   by_act s t act fits e = subst FitsAt (mapped (λ (f : S). record s { flat = f }) (flat.next s.flat act) t e).2 fits
 
-  by_yield : (s t : Replay S) (h page : ℕ) (left : Option Mode) (b : Bool) → FitsAt s → option_map (holds flat page h left) (if b then acted flat s (Lose h) else Some s) ≡ Some t → FitsAt t
+  by_yield : (s t : Replay S) (h page : ℕ) (left : Option Mode) (b : Bool) → FitsAt s
+      → option_map (holds flat page h left) (if b then acted flat s (Lose h) else Some s) ≡ Some t → FitsAt t
   by_yield s t h page left true fits e =
       let a = mapped (holds flat page h left) (acted flat s (Lose h)) t e in
       subst FitsAt a.2 (held_fits harts pages a.0.cursor.numbers a.0.holders page h left (by_act s a.0 (Lose h) fits a.1))
   by_yield s t h page left false fits e = subst FitsAt (same_Some _ _ e) (held_fits harts pages s.cursor.numbers s.holders page h left fits)
 
   by_entry : (s t : Replay S) (h : ℕ) (e : Entry) → FitsAt s → effect flat s h e ≡ Some t → FitsAt t
-  by_entry s t h (entries.Gain count page seq mode waits) fits is = subst FitsAt (same_Some _ _ is) (held_fits harts pages s.cursor.numbers s.holders page h (Some mode) fits)
+  by_entry s t h (entries.Gain count page seq mode waits) fits is =
+      subst FitsAt (same_Some _ _ is) (held_fits harts pages s.cursor.numbers s.holders page h (Some mode) fits)
   by_entry s t h (entries.Yield count page seq left) fits is = by_yield s t h page left (ends_reservation flat s h page) fits is
   by_entry s t h (entries.Poll count ord time bits) fits is = by_act s t (Poll h time) fits is
   by_entry s t h (entries.Touch count ord input) fits is = by_act s t (Touch h input) fits is

@@ -1,10 +1,10 @@
 -- Each recorded item leaves the recording tidy.
-use Rattle.std.proofs.Common.{◌≡◌, ◌≢◌, ℕ, zero, suc, ◌+◌, ◌%◌, ◌<◌, ◌≤◌, ◌==◌, Bool, true, false, List, [], ◌∷◌, ◌++◌, length, Option, Some, None, slice_get, slice_set, slice_index, count_by, is_some, refl, sym, ap, ap₂, ◌∙◌, subst, inl, inr, arith, if◌then◌else◌, true≢false, unwrap_or}
+use Rattle.std.proofs.Common.{◌≡◌, ◌≢◌, ℕ, ◌+◌, ◌%◌, ◌<◌, ◌≤◌, ◌==◌, Bool, true, false, List, [], ◌∷◌, ◌++◌, length, Option, Some, None, slice_get, slice_set, slice_index, count_by, is_some, refl, sym, ap, ap₂, ◌∙◌, subst, inl, inr, arith, if◌then◌else◌, true≢false, unwrap_or}
 use Rattle.std.proofs.lemmas.Option.{none-some, same_Some}
 use Rattle.std.proofs.lemmas.Bool.{eqb-true, eq-eqb, ne_eqb}
 use Rattle.std.proofs.lemmas.Bool.Decides.{eqb_tells}
-use Rattle.std.proofs.lemmas.List.{length_push}
-use Rattle.std.specs.Option.{option_map}
+use Rattle.std.proofs.lemmas.List.{length_push, length-set}
+use Rattle.shared_types.proofs.Lists.{found_at, mapped, set_there, set_where}
 use Rattle.rv_words.specs.declared.shared.Mode.{Mode}
 use Rattle.rv_words.specs.declared.shared.Input.{Input}
 use Rattle.rv_words.specs.declared.shared.Input.TheVariants as inputs
@@ -19,37 +19,12 @@ use Rattle.flat_machine.specs.declared.act.Act.TheVariants.{Run, Touch, Poll}
 use Rattle.order_rules.specs.Holders.{row, with_held}
 use Rattle.replay_model.specs.State.{Replay}
 use Rattle.replay_model.specs.Items.{Item, Ended, Move, Makes, acted, past}
-use Rattle.solo_recording.specs.Recording.{Recording, IsClocked, IsPolled, NoneAt, IsRecorded}
-use Rattle.solo_recording.proofs.Prefix.{count_snoc, count_one, count_none}
+use Rattle.solo_recording.specs.Recording.{SoloRecording, IsClocked, NoneAt, IsRecorded}
+use Rattle.crew_recording.specs.Allowed.{IsPolled}
+use Rattle.crew_recording.proofs.Prefix.{count_snoc, count_one, count_none}
 use Rattle.solo_recording.proofs.Fits.{Fits, on_page, has_ordinal}
-use Rattle.solo_recording.proofs.Tidy.{IsTidy, met, is_it, due_next, tidy_move, tidy_entry}
-
--- what a value under a map was
-pub mapped : {A B : Type 0} (f : A → B) (o : Option A) (b : B) → option_map f o ≡ Some b → (a : A) × (o ≡ Some a) × (f a ≡ b)
-mapped f None b e = absurd (none-some _ e)
-mapped f (Some a) b e = (a, refl, same_Some _ _ e)
-
-set_here : {X : Type 0} (xs : List X) (i : ℕ) (x y : X) → slice_get xs i ≡ Some y → slice_get (slice_set xs i x) i ≡ Some x
-set_here [] i x y e = absurd (none-some _ e)
-set_here (z ∷ xs) zero x y e = refl
-set_here (z ∷ xs) (suc i) x y e = set_here xs i x y e
-
-set_there : {X : Type 0} (xs : List X) (i j : ℕ) (x : X) → j ≢ i → slice_get (slice_set xs i x) j ≡ slice_get xs j
-set_there [] i j x n = refl
-set_there (y ∷ xs) zero zero x n = absurd (n refl)
-set_there (y ∷ xs) zero (suc j) x n = refl
-set_there (y ∷ xs) (suc i) zero x n = refl
-set_there (y ∷ xs) (suc i) (suc j) x n = set_there xs i j x (λ e. n (ap suc e))
-
-pub found_at : {X : Type 0} (xs : List X) (i : ℕ) → i < length xs → (x : X) × (slice_get xs i ≡ Some x)
-found_at [] i l = absurd (omega (arith, l))
-found_at (z ∷ xs) zero l = (z, refl)
-found_at (z ∷ xs) (suc i) l = found_at xs i (omega (arith, l))
-
-pub length_set : {X : Type 0} (xs : List X) (i : ℕ) (x : X) → length (slice_set xs i x) ≡ length xs
-length_set [] i x = refl
-length_set (y ∷ xs) zero x = refl
-length_set (y ∷ xs) (suc i) x = ap suc (length_set xs i x)
+use Rattle.solo_recording.proofs.Tidy.{IsTidy, is_it, due_next, tidy_move, tidy_entry}
+use Rattle.crew_recording.proofs.Tests.{met}
 
 -- the one place, once an entry was taken
 next_place : (places : List ℕ) (n m : ℕ) → places ≡ n ∷ [] → m ≡ n + 1 → slice_set places 0 (slice_index places 0 + 1) ≡ m ∷ []
@@ -64,18 +39,31 @@ pair_first a b c d e =
 
 module _ {S V : Type 0} (flat : Flat S V) (Good : S → Type 0) (clocked : IsClocked flat Good) (limit pages : ℕ) where
   -- the number that a met guard names
-  pub next_number : (r : Recording S) (page seq : ℕ) → IsTidy flat Good limit pages r → page < pages → is_number seq (slice_get r.at.cursor.numbers page) ≡ true → slice_get r.at.cursor.numbers page ≡ Some seq
+  pub next_number : (r : SoloRecording S) (page seq : ℕ) → IsTidy flat Good limit pages r → page < pages
+      → is_number seq (slice_get r.at.cursor.numbers page) ≡ true → slice_get r.at.cursor.numbers page ≡ Some seq
   next_number r page seq tidy inside guard =
       let n = tidy.numbers page inside in n ∙ ap Some (is_it seq (count_by (on_page page) r.stream) (sym (ap (is_number seq) n) ∙ guard))
 
   -- a Gain: the flat state stays
-  tidy_gain : (r : Recording S) (count page seq : ℕ) (mode : Mode) (waits : WaitList) → IsTidy flat Good limit pages r → guard_is_met r.at.cursor (entries.Gain count page seq mode waits) ≡ true
+  tidy_gain : (r : SoloRecording S) (count page seq : ℕ) (mode : Mode) (waits : WaitList) → IsTidy flat Good limit pages r
+      → guard_is_met r.at.cursor (entries.Gain count page seq mode waits) ≡ true
       → count ≡ flat.count r.at.flat 0 → waits.items ≡ [] → page < pages → count ≤ limit
-      → IsTidy flat Good limit pages (record { at = record { flat = r.at.flat; cursor = taken r.at.cursor 0 (entries.Gain count page seq mode waits); holders = with_held r.at.holders page 0 (Some mode) }; stream = r.stream ++ entries.Gain count page seq mode waits ∷ [] })
+      → IsTidy flat Good limit pages
+      (record {
+        at = record {
+          flat = r.at.flat;
+          cursor = taken r.at.cursor 0 (entries.Gain count page seq mode waits);
+          holders = with_held r.at.holders page 0 (Some mode);
+        };
+        stream = r.stream ++ entries.Gain count page seq mode waits ∷ [];
+      })
   tidy_gain r count page seq mode waits tidy guard here none inside bounded =
-      tidy_entry flat Good limit pages r e r.at.flat (with_held r.at.holders page 0 (Some mode)) (taken r.at.cursor 0 e) tidy tidy.good fits refl (omega arith) (omega (arith, here)) (λ t. absurd (true≢false (sym t))) tidy.due (omega arith) (λ t is. absurd (none-some _ is))
-      numbers (tidy.ordinal ∙ sym (count_snoc has_ordinal r.stream e ∙ more_by (count_by has_ordinal r.stream) (count_by has_ordinal (e ∷ [])) 0 (count_none has_ordinal e refl) ∙ omega arith)) (next_place r.at.cursor.places (length r.stream) (length (r.stream ++ e ∷ [])) tidy.place (length_push r.stream e)) tidy.bounded
-      (length_set r.at.holders page _ ∙ tidy.holders) rows
+      tidy_entry flat Good limit pages r e r.at.flat (with_held r.at.holders page 0 (Some mode)) (taken r.at.cursor 0 e) tidy tidy.good fits refl
+      (omega arith) (omega (arith, here)) (λ t. absurd (true≢false (sym t))) tidy.due (omega arith) (λ t is. absurd (none-some _ is))
+      numbers (tidy.ordinal ∙ sym
+      (count_snoc has_ordinal r.stream e ∙ more_by (count_by has_ordinal r.stream) (count_by has_ordinal (e ∷ [])) 0 (count_none has_ordinal e refl)
+      ∙ omega arith)) (next_place r.at.cursor.places (length r.stream) (length (r.stream ++ e ∷ [])) tidy.place (length_push r.stream e)) tidy.bounded
+      (length-set r.at.holders page _ ∙ tidy.holders) rows
     where
       e : Entry
       e = entries.Gain count page seq mode waits
@@ -98,18 +86,23 @@ module _ {S V : Type 0} (flat : Flat S V) (Good : S → Type 0) (clocked : IsClo
       numbers : (q : ℕ) → q < pages → slice_get (slice_set r.at.cursor.numbers page (seq + 1)) q ≡ Some (count_by (on_page q) (r.stream ++ e ∷ []))
       numbers q l = elim (eqb_tells q page) [
         | inl (t, same) ↦ subst (λ z. slice_get (slice_set r.at.cursor.numbers page (seq + 1)) z ≡ Some (count_by (on_page z) (r.stream ++ e ∷ []))) (sym same)
-            (set_here r.at.cursor.numbers page (seq + 1) seq number ∙ ap Some (let a = count_snoc (on_page page) r.stream e in let b = count_one (on_page page) e on_here in let c = seq_is in omega (arith, a, b, c)))
-        | inr (f, n) ↦ set_there r.at.cursor.numbers page q (seq + 1) n ∙ tidy.numbers q l ∙ ap Some (let a = count_snoc (on_page q) r.stream e in let b = count_none (on_page q) e (off_there q n) in omega (arith, a, b))
+            (set_where r.at.cursor.numbers page (seq + 1) seq number
+            ∙ ap Some (let a = count_snoc (on_page page) r.stream e in let b = count_one (on_page page) e on_here in let c = seq_is in
+            omega (arith, a, b, c)))
+        | inr (f, n) ↦ set_there r.at.cursor.numbers page q (seq + 1) n ∙ tidy.numbers q l
+            ∙ ap Some (let a = count_snoc (on_page q) r.stream e in let b = count_none (on_page q) e (off_there q n) in omega (arith, a, b))
       ]
 
       rows : (q : ℕ) → q < pages → 0 < length (row (with_held r.at.holders page 0 (Some mode)) q)
       rows q l = elim (eqb_tells q page) [
-        | inl (t, same) ↦ subst (λ z. 0 < length (row (with_held r.at.holders page 0 (Some mode)) z)) (sym same) (on_row (found_at r.at.holders page (omega (arith, tidy.holders, inside))))
+        | inl (t, same) ↦ subst (λ z. 0 < length (row (with_held r.at.holders page 0 (Some mode)) z)) (sym same)
+            (on_row (found_at r.at.holders page (omega (arith, tidy.holders, inside))))
         | inr (f, n) ↦ subst (λ o. 0 < length (unwrap_or o [])) (sym (set_there r.at.holders page q _ n)) (tidy.rows q l)
       ]
         where
           on_row : (y : List (Option Mode)) × (slice_get r.at.holders page ≡ Some y) → 0 < length (row (with_held r.at.holders page 0 (Some mode)) page)
-          on_row (y, is) = subst (λ o. 0 < length (unwrap_or o [])) (sym (set_here r.at.holders page _ y is)) (let a = length_set (row r.at.holders page) 0 (Some mode) in let b = tidy.rows page inside in omega (arith, a, b))
+          on_row (y, is) = subst (λ o. 0 < length (unwrap_or o [])) (sym (set_where r.at.holders page _ y is))
+              (let a = length-set (row r.at.holders page) 0 (Some mode) in let b = tidy.rows page inside in omega (arith, a, b))
 
       fits : Fits limit r.stream e
       fits = record {
@@ -123,27 +116,37 @@ module _ {S V : Type 0} (flat : Flat S V) (Good : S → Type 0) (clocked : IsClo
         waits = none;
       }
 
-  number_nowhere : (r : Recording S) (e : Entry) → IsTidy flat Good limit pages r → ((q : ℕ) → on_page q e ≡ false) → (q : ℕ) → q < pages → slice_get r.at.cursor.numbers q ≡ Some (count_by (on_page q) (r.stream ++ e ∷ []))
-  number_nowhere r e tidy off q l = tidy.numbers q l ∙ ap Some (let a = count_snoc (on_page q) r.stream e in let b = count_none (on_page q) e (off q) in omega (arith, a, b))
+  number_nowhere : (r : SoloRecording S) (e : Entry) → IsTidy flat Good limit pages r → ((q : ℕ) → on_page q e ≡ false) → (q : ℕ) → q < pages
+      → slice_get r.at.cursor.numbers q ≡ Some (count_by (on_page q) (r.stream ++ e ∷ []))
+  number_nowhere r e tidy off q l = tidy.numbers q l
+      ∙ ap Some (let a = count_snoc (on_page q) r.stream e in let b = count_none (on_page q) e (off q) in omega (arith, a, b))
 
-  ordinal_is : (r : Recording S) (ord : ℕ) → IsTidy flat Good limit pages r → (ord == r.at.cursor.ordinal) ≡ true → ord ≡ count_by has_ordinal r.stream
+  ordinal_is : (r : SoloRecording S) (ord : ℕ) → IsTidy flat Good limit pages r → (ord == r.at.cursor.ordinal) ≡ true → ord ≡ count_by has_ordinal r.stream
   ordinal_is r ord tidy guard = eqb-true ord r.at.cursor.ordinal guard ∙ tidy.ordinal
 
-  ordinal_next : (r : Recording S) (ord : ℕ) (e : Entry) → ord ≡ count_by has_ordinal r.stream → has_ordinal e ≡ true → ord + 1 ≡ count_by has_ordinal (r.stream ++ e ∷ [])
+  ordinal_next : (r : SoloRecording S) (ord : ℕ) (e : Entry) → ord ≡ count_by has_ordinal r.stream → has_ordinal e ≡ true
+      → ord + 1 ≡ count_by has_ordinal (r.stream ++ e ∷ [])
   ordinal_next r ord e is has = let a = count_snoc has_ordinal r.stream e in let b = count_one has_ordinal e has in omega (arith, a, b, is)
 
   -- a Poll: the time goes on
-  tidy_poll : (r : Recording S) (f : S) (count ord time bits : ℕ) → IsTidy flat Good limit pages r → (ord == r.at.cursor.ordinal) ≡ true → flat.next r.at.flat (Poll 0 time) ≡ Some f
+  tidy_poll : (r : SoloRecording S) (f : S) (count ord time bits : ℕ) → IsTidy flat Good limit pages r → (ord == r.at.cursor.ordinal) ≡ true
+      → flat.next r.at.flat (Poll 0 time) ≡ Some f
       → count ≡ flat.count r.at.flat 0 → count < limit → count % 4096 ≡ 0 → NoneAt r.stream count
-      → IsTidy flat Good limit pages (record { at = record { flat = f; cursor = taken r.at.cursor 0 (entries.Poll count ord time bits); holders = r.at.holders }; stream = r.stream ++ entries.Poll count ord time bits ∷ [] })
+      → IsTidy flat Good limit pages
+      (record {
+        at = record { flat = f; cursor = taken r.at.cursor 0 (entries.Poll count ord time bits); holders = r.at.holders };
+        stream = r.stream ++ entries.Poll count ord time bits ∷ [];
+      })
   tidy_poll r f count ord time bits tidy guard next here less due none =
       let same = clocked.poll_count r.at.flat f time tidy.good next in
       let later = clocked.poll_time r.at.flat f time tidy.good next in
       let before = later.0 in
       let then_is = later.1 in
-      tidy_entry flat Good limit pages r e f r.at.holders (taken r.at.cursor 0 e) tidy (clocked.lasts r.at.flat f (Poll 0 time) tidy.good next) fits refl (omega (arith, same)) (omega (arith, same, here)) (λ t. absurd (true≢false (sym t)))
+      tidy_entry flat Good limit pages r e f r.at.holders (taken r.at.cursor 0 e) tidy (clocked.lasts r.at.flat f (Poll 0 time) tidy.good next) fits refl
+      (omega (arith, same)) (omega (arith, same, here)) (λ t. absurd (true≢false (sym t)))
       (λ k l. tidy.due k (omega (arith, l, same))) (omega (arith, before, then_is)) (λ t is. let w = same_Some _ _ is in omega (arith, w, then_is))
-      (number_nowhere r e tidy (λ q. refl)) (ordinal_next r ord e (ordinal_is r ord tidy guard) refl) (next_place r.at.cursor.places (length r.stream) (length (r.stream ++ e ∷ [])) tidy.place (length_push r.stream e))
+      (number_nowhere r e tidy (λ q. refl)) (ordinal_next r ord e (ordinal_is r ord tidy guard) refl)
+      (next_place r.at.cursor.places (length r.stream) (length (r.stream ++ e ∷ [])) tidy.place (length_push r.stream e))
       (omega (arith, same, here, less)) tidy.holders tidy.rows
     where
       e : Entry
@@ -157,11 +160,13 @@ module _ {S V : Type 0} (flat : Flat S V) (Good : S → Type 0) (clocked : IsClo
         due = λ k l. tidy.due k (omega (arith, l, here));
         numbers = λ p k is. absurd (none-some _ is);
         ordinals = λ k is. sym (same_Some _ _ is) ∙ ordinal_is r ord tidy guard;
-        times = λ j s t b at is now. let l = tidy.times j s b at is in let w = same_Some _ _ now in let m = (clocked.poll_time r.at.flat f time tidy.good next).0 in omega (arith, l, w, m);
+        times = λ j s t b at is now. let l = tidy.times j s b at is in let w = same_Some _ _ now in
+            let m = (clocked.poll_time r.at.flat f time tidy.good next).0 in omega (arith, l, w, m);
         waits = refl;
       }
 
-  touch_times : (s f : S) (input : Input) (t : ℕ) → Good s → time_of_input input ≡ Some t → flat.next s (Touch 0 input) ≡ Some f → (flat.time s ≤ t) × (flat.time f ≡ t)
+  touch_times : (s f : S) (input : Input) (t : ℕ) → Good s → time_of_input input ≡ Some t → flat.next s (Touch 0 input) ≡ Some f
+      → (flat.time s ≤ t) × (flat.time f ≡ t)
   touch_times s f inputs.Nothing t good is next = absurd (none-some _ is)
   touch_times s f inputs.Empty t good is next = absurd (none-some _ is)
   touch_times s f (inputs.Byte b) t good is next = absurd (none-some _ is)
@@ -171,15 +176,23 @@ module _ {S V : Type 0} (flat : Flat S V) (Good : S → Type 0) (clocked : IsClo
       (subst (λ n. flat.time s ≤ n) w both.0, both.1 ∙ w)
 
   -- a Touch: a move, and maybe the time
-  tidy_touch : (r : Recording S) (f : S) (count ord : ℕ) (input : Input) → IsTidy flat Good limit pages r → (ord == r.at.cursor.ordinal) ≡ true → flat.next r.at.flat (Touch 0 input) ≡ Some f
+  tidy_touch : (r : SoloRecording S) (f : S) (count ord : ℕ) (input : Input) → IsTidy flat Good limit pages r → (ord == r.at.cursor.ordinal) ≡ true
+      → flat.next r.at.flat (Touch 0 input) ≡ Some f
       → count ≡ flat.count r.at.flat 0 → count < limit → IsPolled r.stream count
-      → IsTidy flat Good limit pages (record { at = record { flat = f; cursor = taken r.at.cursor 0 (entries.Touch count ord input); holders = r.at.holders }; stream = r.stream ++ entries.Touch count ord input ∷ [] })
+      → IsTidy flat Good limit pages
+      (record {
+        at = record { flat = f; cursor = taken r.at.cursor 0 (entries.Touch count ord input); holders = r.at.holders };
+        stream = r.stream ++ entries.Touch count ord input ∷ [];
+      })
   tidy_touch r f count ord input tidy guard next here less polled =
       let up = clocked.touch_count r.at.flat f input tidy.good next in
       let later = clocked.touch_later r.at.flat f input tidy.good next in
-      tidy_entry flat Good limit pages r e f r.at.holders (taken r.at.cursor 0 e) tidy (clocked.lasts r.at.flat f (Touch 0 input) tidy.good next) fits refl (omega (arith, up)) (omega (arith, up, here)) (λ t. omega (arith, up, here))
-      (λ k l. due_next flat Good limit pages r.stream (flat.count r.at.flat 0) tidy.due (subst (λ n. IsPolled r.stream n) here polled) k (omega (arith, l, up))) later (λ t is. let w = (touch_times r.at.flat f input t tidy.good is next).1 in omega (arith, w))
-      (number_nowhere r e tidy (λ q. refl)) (ordinal_next r ord e (ordinal_is r ord tidy guard) refl) (next_place r.at.cursor.places (length r.stream) (length (r.stream ++ e ∷ [])) tidy.place (length_push r.stream e))
+      tidy_entry flat Good limit pages r e f r.at.holders (taken r.at.cursor 0 e) tidy (clocked.lasts r.at.flat f (Touch 0 input) tidy.good next) fits refl
+      (omega (arith, up)) (omega (arith, up, here)) (λ t. omega (arith, up, here))
+      (λ k l. due_next flat Good limit pages r.stream (flat.count r.at.flat 0) tidy.due (subst (λ n. IsPolled r.stream n) here polled) k
+      (omega (arith, l, up))) later (λ t is. let w = (touch_times r.at.flat f input t tidy.good is next).1 in omega (arith, w))
+      (number_nowhere r e tidy (λ q. refl)) (ordinal_next r ord e (ordinal_is r ord tidy guard) refl)
+      (next_place r.at.cursor.places (length r.stream) (length (r.stream ++ e ∷ [])) tidy.place (length_push r.stream e))
       (omega (arith, up, here, less)) tidy.holders tidy.rows
     where
       e : Entry
@@ -197,16 +210,18 @@ module _ {S V : Type 0} (flat : Flat S V) (Good : S → Type 0) (clocked : IsClo
         waits = refl;
       }
 
-  rebuilt : (s : Recording S) (a : Replay S) (stream : List Entry) → a ≡ s.at → s.stream ≡ stream → IsTidy flat Good limit pages (record { at = a; stream = stream }) → IsTidy flat Good limit pages s
+  rebuilt : (s : SoloRecording S) (a : Replay S) (stream : List Entry) → a ≡ s.at → s.stream ≡ stream
+      → IsTidy flat Good limit pages (record { at = a; stream = stream }) → IsTidy flat Good limit pages s
   rebuilt s a stream e f tidy = subst (λ x. IsTidy flat Good limit pages x) (ap₂ (λ x y. record { at = x; stream = y }) e (sym f)) tidy
 
   -- an item leaves the recording tidy
-  pub tidy_item : (r s : Recording S) (item : Item) → IsRecorded flat limit r item s → IsTidy flat Good limit pages r → IsTidy flat Good limit pages s
+  pub tidy_item : (r s : SoloRecording S) (item : Item) → IsRecorded flat limit r item s → IsTidy flat Good limit pages r → IsTidy flat Good limit pages s
   tidy_item r s Ended is tidy = absurd is.allowed
   tidy_item r s Move is tidy =
       let m = mapped (λ (f : S). record r.at { flat = f }) (flat.next r.at.flat (Run 0)) s.at is.made in
       rebuilt s (record r.at { flat = m.0 }) r.stream m.2 is.stream
-      (tidy_move flat Good limit pages r m.0 tidy (clocked.lasts r.at.flat m.0 (Run 0) tidy.good m.1) (clocked.run_count r.at.flat m.0 tidy.good m.1) (clocked.run_time r.at.flat m.0 tidy.good m.1) is.allowed.0 is.allowed.1)
+      (tidy_move flat Good limit pages r m.0 tidy (clocked.lasts r.at.flat m.0 (Run 0) tidy.good m.1) (clocked.run_count r.at.flat m.0 tidy.good m.1)
+      (clocked.run_time r.at.flat m.0 tidy.good m.1) is.allowed.0 is.allowed.1)
   tidy_item r s (Makes (entries.Gain count page seq mode waits)) is tidy =
       let guard = met (guard_is_met r.at.cursor (entries.Gain count page seq mode waits)) _ is.goes in
       let here = is.allowed.0 in
