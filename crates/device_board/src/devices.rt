@@ -4,9 +4,9 @@ ghost use Rattle.std.specs.Prelude.{◌≡◌, ◌+◌, ◌<◌, ◌≤◌, ◌+
 ghost use Rattle.rv_words.specs.Addresses.{device_word, IsOfHart};
 ghost use Rattle.device_board.specs.State.{devices_at_start, lines_at, lines, with_time};
 ghost use Rattle.device_board.specs.Accesses.{loaded, stored, word_touched, touched, timed, MadeAgain, sends, HasRoom, RoomIsKept};
-ghost use Rattle.device_board.specs.Recording.{recorded_input, answers_taken, bytes_given, uses_console};
+ghost use Rattle.device_board.specs.Recording.{uses_console, AccessHas, AccessGives, AccessUsesConsole};
 ghost use Rattle.outside.specs.Causes.{HasCause};
-ghost use Rattle.outside.specs.declared.console.Asked.{Asked};
+ghost use Rattle.outside.specs.Seen.{ToldBefore, AnswersNothing, TakesNothing};
 
 use crate::recording::recorded_input;
 use outside::Console;
@@ -37,7 +37,17 @@ impl Model for Devices {
 
     ghost Value = { state.DevicesWithRoom };
 
-    ghost view = { λ d. record { devices = record { harts = d.harts; msip = take d.harts d.msip; mtimecmp = take d.harts d.mtimecmp; mtime = d.mtime; sent = d.sent.items; stop = d.stop }; spare = d.spare } };
+    ghost view = { λ d. record {
+      devices = record {
+        harts = d.harts;
+        msip = take d.harts d.msip;
+        mtimecmp = take d.harts d.mtimecmp;
+        mtime = d.mtime;
+        sent = d.sent.items;
+        stop = d.stop;
+      };
+      spare = d.spare;
+    } };
 
     ghost invariant = { λ d. (d.harts ≤ 8) × (vec_len d.sent + d.spare ≤ vec_capacity d.sent) };
 }
@@ -261,18 +271,19 @@ impl Devices {
         ensures room { RoomIsKept self.old self.new }
 
         // Its input, and the answer of the console that it took.
-        ensures input { IfOk result (λ t. IfSome (device_word self.old.devices.harts access.at) (λ word. (a : Asked) × (t.input ≡ recorded_input word access.store self.old.devices.mtime now a) × (IsTrue (C.tells_answers console.new) → C.answers console.new ≡ C.answers console.old ++ answers_taken word access.store a))) }
-        ensures given { OnOk result (IfSome (device_word self.old.devices.harts access.at) (λ word. IsTrue (C.tells_taken console.new) → C.taken console.new ≡ C.taken console.old ++ bytes_given word access.store)) }
-        ensures alone { IfSome (device_word self.old.devices.harts access.at) (λ word. uses_console word access.store ≡ false → console.new ≡ console.old) }
-        ensures tells_answers { IsTrue (C.tells_answers console.new) → IsTrue (C.tells_answers console.old) }
-        ensures tells_taken { IsTrue (C.tells_taken console.new) → IsTrue (C.tells_taken console.old) }
+        ensures input { IfOk result (λ t. AccessHas self.old.devices access now (C.seen console.old) (C.seen console.new) t.input) }
+        ensures given { OnOk result (AccessGives self.old.devices access (C.seen console.old) (C.seen console.new)) }
+        ensures alone { IfSome (device_word self.old.devices.harts access.at)
+            (λ word. uses_console word access.store ≡ false → console.new ≡ console.old) }
+        ensures tells_answers { ToldBefore (C.seen console.old).tells_answers (C.seen console.new).tells_answers }
+        ensures tells_taken { ToldBefore (C.seen console.old).tells_taken (C.seen console.new).tells_taken }
 
         // After a failure nothing is changed, and the console gave no answer and took no byte.
-        ensures cause { HasCause (C.faults console.old) (C.faults console.new) result }
-        ensures asks { OnErr result (IfSome (device_word self.old.devices.harts access.at) (λ word. IsTrue (uses_console word access.store))) }
+        ensures cause { HasCause (C.seen console.old).faults (C.seen console.new).faults result }
+        ensures asks { OnErr result (AccessUsesConsole self.old.devices access) }
         ensures as_before { OnErr result (self.new ≡ self.old) }
-        ensures no_answer { OnErr result (IsTrue (C.tells_answers console.new) → C.answers console.new ≡ C.answers console.old) }
-        ensures no_byte { OnErr result (IsTrue (C.tells_taken console.new) → C.taken console.new ≡ C.taken console.old) }
+        ensures no_answer { OnErr result (AnswersNothing (C.seen console.old) (C.seen console.new)) }
+        ensures no_byte { OnErr result (TakesNothing (C.seen console.old) (C.seen console.new)) }
     {
         let Some(word) = device_word(access.at, self.harts) else {
             unreachable!()

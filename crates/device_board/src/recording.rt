@@ -1,9 +1,9 @@
 //! What an access asks of console and clock when a run is recorded.
 
-ghost use Rattle.std.specs.Prelude.{◌≡◌, ◌++◌, Bool, false, IsTrue, IfOk, OnOk, OnErr};
-ghost use Rattle.device_board.specs.Recording.{input_of, recorded_input, answers_taken, bytes_given, uses_console};
+ghost use Rattle.std.specs.Prelude.{◌≡◌, false, IsTrue, IfOk, OnOk, OnErr};
+ghost use Rattle.device_board.specs.Recording.{input_of, bytes_given, uses_console, WordHas};
 ghost use Rattle.outside.specs.Causes.{HasCause};
-ghost use Rattle.outside.specs.declared.console.Asked.{Asked};
+ghost use Rattle.outside.specs.Seen.{ToldBefore, AnswersNothing, Takes, TakesNothing};
 
 use outside::{Asked, Console, Failed};
 use rv_words::{DeviceWord, Input};
@@ -25,15 +25,15 @@ pub(crate) fn recorded_input<C: Console>(
     mtime: u64,
     now: u64,
 ) -> Result<Input, Failed>
-    ensures input { IfOk result (λ input. (a : Asked) × (input ≡ recorded_input word store mtime now a) × (IsTrue (C.tells_answers console.new) → C.answers console.new ≡ C.answers console.old ++ answers_taken word store a)) }
-    ensures given { OnOk result (IsTrue (C.tells_taken console.new) → C.taken console.new ≡ C.taken console.old ++ bytes_given word store) }
+    ensures input { IfOk result (WordHas word store mtime now (C.seen console.old) (C.seen console.new)) }
+    ensures given { OnOk result (Takes (bytes_given word store) (C.seen console.old) (C.seen console.new)) }
     ensures alone { uses_console word store ≡ false → console.new ≡ console.old }
-    ensures tells_answers { IsTrue (C.tells_answers console.new) → IsTrue (C.tells_answers console.old) }
-    ensures tells_taken { IsTrue (C.tells_taken console.new) → IsTrue (C.tells_taken console.old) }
-    ensures cause { HasCause (C.faults console.old) (C.faults console.new) result }
+    ensures tells_answers { ToldBefore (C.seen console.old).tells_answers (C.seen console.new).tells_answers }
+    ensures tells_taken { ToldBefore (C.seen console.old).tells_taken (C.seen console.new).tells_taken }
+    ensures cause { HasCause (C.seen console.old).faults (C.seen console.new).faults result }
     ensures asks { OnErr result (IsTrue (uses_console word store)) }
-    ensures no_answer { OnErr result (IsTrue (C.tells_answers console.new) → C.answers console.new ≡ C.answers console.old) }
-    ensures no_byte { OnErr result (IsTrue (C.tells_taken console.new) → C.taken console.new ≡ C.taken console.old) }
+    ensures no_answer { OnErr result (AnswersNothing (C.seen console.old) (C.seen console.new)) }
+    ensures no_byte { OnErr result (TakesNothing (C.seen console.old) (C.seen console.new)) }
 {
     match (word, store) {
         (DeviceWord::Rx, None) => match console.poll() {

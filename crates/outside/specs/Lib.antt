@@ -1,5 +1,6 @@
 pub mod Causes
 pub mod Fetching
+pub mod Seen
 pub mod Numbered
 pub mod Consoles
 pub mod Clocks

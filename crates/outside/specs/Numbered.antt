@@ -1,5 +1,5 @@
 -- The numbered calls of the forms in memory.
-use Rattle.std.specs.Prelude.{ℕ, ◌+◌, ◌-◌, ◌^◌, min, List, Bool, nat_eq, if◌then◌else◌}
+use Rattle.std.specs.Prelude.{ℕ, ◌+◌, ◌-◌, ◌^◌, min, List, Bool, not, nat_eq, IsTrue, if◌then◌else◌}
 use Rattle.std.specs.List.{list_any}
 
 -- the numbered calls of a form in memory: those that are to fail, the number of the next call, and the count of faults
@@ -19,6 +19,10 @@ calls_at_start fails = record { fails = fails; next = 0; faults = 0 }
 -- the next call is one of those that are to fail
 abbrev pub fails_next : Numbered → Bool
 fails_next c = list_any (λ y. nat_eq y c.next) c.fails
+
+-- the next call is none of them
+abbrev pub GoesThrough : Numbered → Type 0
+GoesThrough c = IsTrue (not (fails_next c))
 
 -- the calls after the next one, which failed or did not
 abbrev pub after_call : Numbered → Bool → Numbered

@@ -1,6 +1,6 @@
 -- How a shelf in memory is stored.
 use Rattle.std.specs.Prelude.{◌≡◌, ◌+◌, ◌≤◌, ℕ, List, length, Bool}
-use Rattle.outside.specs.declared.folder.Folder.{Folder}
+use Rattle.outside.specs.declared.stored.Folder.{Folder}
 use Rattle.outside.specs.Files.{total}
 use Rattle.outside.specs.Rows.{files, rows}
 use Rattle.outside.specs.Sinks.{TrayState}

@@ -1,22 +1,20 @@
 //! The clock outside, and one in memory.
 
-ghost use Rattle.std.specs.Prelude.{◌≡◌, ◌++◌, ◌-◌, ◌^◌, ◌∷◌, ℕ, List, [], Bool, nat_lt, IsTrue};
-ghost use Rattle.outside.specs.Clocks.{tick_at, ticks};
+ghost use Rattle.std.specs.Prelude.{◌≡◌};
+ghost use Rattle.outside.specs.Seen.{SeenClock, ToldBefore, Tells};
+ghost use Rattle.outside.specs.Clocks.{tick_at, seen_of_clock};
 ghost use Rattle.outside.specs.Numbered.{one_more};
 
 use std::marker::Model;
 
 /// Answers a time in microseconds at each call.
 pub trait Clock: Send + Drop {
-    /// Whether it tells the answers that it gave.
-    ghost tells: { Self → Bool };
-
-    /// The answers given, in order, where it tells them.
-    ghost answers: { Self → List ℕ };
+    /// What contracts see of it.
+    ghost seen: { Self → SeenClock };
 
     fn now(&mut self) -> u64
-        ensures tells { IsTrue (tells self.new) → IsTrue (tells self.old) }
-        ensures answered { IsTrue (tells self.new) → answers self.new ≡ answers self.old ++ result ∷ [] };
+        ensures tells { ToldBefore (seen self.old).tells (seen self.new).tells }
+        ensures answered { Tells result (seen self.old) (seen self.new) };
 }
 
 /// A clock that answers a first number, and then the same step more at each call, up to the last number of 64 bits.
@@ -53,12 +51,10 @@ impl MemClock {
 }
 
 impl Clock for MemClock {
-    ghost tells = { λ c. nat_lt c.given (2 ^ 64 - 1) };
-
-    ghost answers = { λ c. ticks c.first c.step c.given };
+    ghost seen = { seen_of_clock };
 
     fn now(&mut self) -> u64
-        ensures answered { IsTrue (nat_lt self.new.given (2 ^ 64 - 1)) → ticks self.new.first self.new.step self.new.given ≡ ticks self.old.first self.old.step self.old.given ++ result ∷ [] }
+        ensures answered { Tells result (seen_of_clock self.old) (seen_of_clock self.new) }
         ensures answer { result ≡ tick_at self.old.first self.old.step self.old.given }
         ensures counted { self.new ≡ record self.old { given = one_more self.old.given } }
     {

@@ -1,10 +1,10 @@
 //! The console outside, and those in memory.
 
-ghost use Rattle.std.specs.Prelude.{◌≡◌, ◌++◌, ◌≤◌, ◌&&◌, ◌∷◌, ℕ, List, [], Bool, true, false, not, length, nat_lt, ◌-◌, ◌^◌, IsTrue, OnOk, OnErr, IfOk, Ok, is_ok, if◌then◌else◌};
+ghost use Rattle.std.specs.Prelude.{◌≡◌, ◌++◌, ◌∷◌, [], true, not, OnOk, OnErr, IfOk, Ok, is_ok, if◌then◌else◌};
 ghost use Rattle.outside.specs.Causes.{HasCause};
-ghost use Rattle.outside.specs.Numbered.{calls_at_start, fails_next, after_call, one_more};
-ghost use Rattle.outside.specs.Consoles.{answer_at, given, repeated};
-ghost use Rattle.outside.specs.declared.console.Asked.{Asked};
+ghost use Rattle.outside.specs.Seen.{SeenConsole, ToldBefore, Answers, AnswersNothing, Takes, TakesNothing};
+ghost use Rattle.outside.specs.Numbered.{fails_next, after_call, one_more};
+ghost use Rattle.outside.specs.Consoles.{mem_console_at_start, answer_at, takes, seen_of_console, seen_of_sure};
 ghost use Rattle.outside.specs.declared.console.Asked.TheVariants.{Nothing};
 
 use crate::calls::Calls;
@@ -23,38 +23,26 @@ pub enum Asked {
 
 /// Gives the guest its input and takes its output, a byte at a time.
 pub trait Console: Send + Drop {
-    /// Whether it tells the answers that it gave.
-    ghost tells_answers: { Self → Bool };
-
-    /// Whether it tells the bytes that it took.
-    ghost tells_taken: { Self → Bool };
-
-    /// The answers given, in order, where it tells them.
-    ghost answers: { Self → List Asked };
-
-    /// The bytes taken, in order, where it tells them.
-    ghost taken: { Self → List ℕ };
-
-    /// The count of faults.
-    ghost faults: { Self → ℕ };
+    /// What contracts see of it.
+    ghost seen: { Self → SeenConsole };
 
     /// Asks for a byte, and takes none.
     fn poll(&mut self) -> Result<Asked, Failed>
-        ensures tells_answers { IsTrue (tells_answers self.new) → IsTrue (tells_answers self.old) }
-        ensures tells_taken { IsTrue (tells_taken self.new) → IsTrue (tells_taken self.old) }
-        ensures answered { IfOk result (λ a. IsTrue (tells_answers self.new) → answers self.new ≡ answers self.old ++ a ∷ []) }
-        ensures as_before { OnErr result (IsTrue (tells_answers self.new) → answers self.new ≡ answers self.old) }
-        ensures taken { IsTrue (tells_taken self.new) → taken self.new ≡ taken self.old }
-        ensures cause { HasCause (faults self.old) (faults self.new) result };
+        ensures tells_answers { ToldBefore (seen self.old).tells_answers (seen self.new).tells_answers }
+        ensures tells_taken { ToldBefore (seen self.old).tells_taken (seen self.new).tells_taken }
+        ensures answered { IfOk result (λ a. Answers a (seen self.old) (seen self.new)) }
+        ensures as_before { OnErr result (AnswersNothing (seen self.old) (seen self.new)) }
+        ensures taken { TakesNothing (seen self.old) (seen self.new) }
+        ensures cause { HasCause (seen self.old).faults (seen self.new).faults result };
 
     /// Hands over a byte, and gives no answer.
     fn put(&mut self, byte: u8) -> Result<(), Failed>
-        ensures tells_answers { IsTrue (tells_answers self.new) → IsTrue (tells_answers self.old) }
-        ensures tells_taken { IsTrue (tells_taken self.new) → IsTrue (tells_taken self.old) }
-        ensures answers { IsTrue (tells_answers self.new) → answers self.new ≡ answers self.old }
-        ensures taken { OnOk result (IsTrue (tells_taken self.new) → taken self.new ≡ taken self.old ++ byte ∷ []) }
-        ensures as_before { OnErr result (IsTrue (tells_taken self.new) → taken self.new ≡ taken self.old) }
-        ensures cause { HasCause (faults self.old) (faults self.new) result };
+        ensures tells_answers { ToldBefore (seen self.old).tells_answers (seen self.new).tells_answers }
+        ensures tells_taken { ToldBefore (seen self.old).tells_taken (seen self.new).tells_taken }
+        ensures answers { AnswersNothing (seen self.old) (seen self.new) }
+        ensures taken { OnOk result (Takes (byte ∷ []) (seen self.old) (seen self.new)) }
+        ensures as_before { OnErr result (TakesNothing (seen self.old) (seen self.new)) }
+        ensures cause { HasCause (seen self.old).faults (seen self.new).faults result };
 }
 
 /// A console in memory. Its calls of `poll` and `put` are numbered together. All its memory is taken when it is made.
@@ -72,11 +60,19 @@ impl Model for MemConsole {
 
     ghost Value = { consoles.MemConsoleState };
 
-    ghost view = { λ c. record { list = c.list.items; last = c.last; asked = c.asked; taken = c.tray.bytes; room = c.tray.room; calls = c.calls } };
+    ghost view = { λ c. record {
+      list = c.list.items;
+      last = c.last;
+      asked = c.asked;
+      taken = c.tray.bytes;
+      room = c.tray.room;
+      calls = c.calls;
+    } };
 }
 
 impl MemConsole {
-    /// A console that gives these answers and then the last one each time, with room for so many bytes, whose calls of these numbers, from 0, fail.
+    /// A console that gives these answers and then the last one each time, with room for so many bytes, whose
+    /// calls of these numbers, from 0, fail.
     pub fn start(
         alloc: Global,
         answers: &[Asked],
@@ -84,7 +80,7 @@ impl MemConsole {
         room: u64,
         fails: &[u64],
     ) -> Result<MemConsole, NoMemory>
-        ensures { IfOk result (λ c. c ≡ record { list = answers.now; last = last; asked = 0; taken = []; room = room; calls = calls_at_start fails.now }) }
+        ensures { IfOk result (λ c. c ≡ mem_console_at_start answers.now last room fails.now) }
     {
         let tray = Tray::start(alloc, room)?;
         let calls = Calls::start(alloc, fails)?;
@@ -119,19 +115,11 @@ impl MemConsole {
 }
 
 impl Console for MemConsole {
-    ghost tells_answers = { λ c. nat_lt c.asked (2 ^ 64 - 1) };
-
-    ghost tells_taken = { λ _. true };
-
-    ghost answers = { λ c. given c.list c.last c.asked };
-
-    ghost taken = { λ c. c.taken };
-
-    ghost faults = { λ c. c.calls.faults };
+    ghost seen = { seen_of_console };
 
     fn poll(&mut self) -> Result<Asked, Failed>
         ensures exact { is_ok result ≡ not (fails_next self.old.calls) }
-        ensures answered { IfOk result (λ a. IsTrue (nat_lt self.new.asked (2 ^ 64 - 1)) → given self.new.list self.new.last self.new.asked ≡ given self.old.list self.old.last self.old.asked ++ a ∷ []) }
+        ensures answered { IfOk result (λ a. Answers a (seen_of_console self.old) (seen_of_console self.new)) }
         ensures answer { IfOk result (λ a. a ≡ answer_at self.old.list self.old.last self.old.asked) }
         ensures asked { self.new.asked ≡ (if is_ok result then one_more self.old.asked else self.old.asked) }
         ensures calls { self.new.calls ≡ after_call self.old.calls (not (is_ok result)) }
@@ -149,7 +137,7 @@ impl Console for MemConsole {
     }
 
     fn put(&mut self, byte: u8) -> Result<(), Failed>
-        ensures exact { is_ok result ≡ (not (fails_next self.old.calls) && nat_lt (length self.old.taken) self.old.room) }
+        ensures exact { is_ok result ≡ takes self.old }
         ensures taken { self.new.taken ≡ (if is_ok result then self.old.taken ++ byte ∷ [] else self.old.taken) }
         ensures calls { self.new.calls ≡ after_call self.old.calls (not (is_ok result)) }
         ensures as_before { self.new ≡ record self.old { taken = self.new.taken; calls = self.new.calls } }
@@ -186,18 +174,10 @@ impl SureConsole {
 }
 
 impl Console for SureConsole {
-    ghost tells_answers = { λ asked. nat_lt asked (2 ^ 64 - 1) };
-
-    ghost tells_taken = { λ _. false };
-
-    ghost answers = { λ asked. repeated Nothing asked };
-
-    ghost taken = { λ _. [] };
-
-    ghost faults = { λ _. 0 };
+    ghost seen = { seen_of_sure };
 
     fn poll(&mut self) -> Result<Asked, Failed>
-        ensures answered { IfOk result (λ a. IsTrue (nat_lt self.new (2 ^ 64 - 1)) → repeated Nothing self.new ≡ repeated Nothing self.old ++ a ∷ []) }
+        ensures answered { IfOk result (λ a. Answers a (seen_of_sure self.old) (seen_of_sure self.new)) }
         ensures answer { result ≡ Ok Nothing }
         ensures asked { self.new ≡ one_more self.old }
     {

@@ -1,30 +1,19 @@
-//! Files in memory, in room that is taken at once: names and bytes stand behind one another in one text, and heads tell the two lengths of each file.
+//! Files in memory, in room that is taken at once: names and bytes stand behind one another in one text, and
+//! heads tell the two lengths of each file.
 
-ghost use Rattle.std.specs.Prelude.{◌≡◌, ◌≢◌, ◌++◌, ◌+◌, ◌-◌, ◌*◌, ◌/◌, ◌^◌, ◌≤◌, ◌<◌, ◌∷◌, ℕ, List, [], length, take, drop, IfOk, IsTrue, MatchOption, Some, None, Option, option_map, vec_len, vec_capacity};
+ghost use Rattle.std.specs.Prelude.{◌≡◌, ◌≢◌, ◌++◌, ◌+◌, ◌-◌, ◌*◌, ◌/◌, ◌^◌, ◌≤◌, ◌<◌, ◌∷◌, ℕ, List, [], length, take, drop, IfOk, IsTrue, MatchOption, Some, None, Option, option_map, Err, ◌↔◌, vec_len, vec_capacity};
 ghost use Rattle.outside.specs.Files.{lookup, without, replaced, are_apart, total};
+ghost use Rattle.outside.specs.Fetching.{IsPast};
 ghost use Rattle.outside.specs.Rows.{sizes, files, rows, IsClosed, IsPlace};
+ghost use Rattle.outside.specs.Stored.{contents};
 
-use crate::NoMemory;
 use crate::heads::{Head, Row, next_row, push_row};
+use crate::stored::Folder;
+use crate::{FetchError, NoMemory};
 use std::alloc::Global;
 
 /// More bytes than a machine has. Below it the heads can be counted.
 const TOO_MUCH: u64 = 1 << 50;
-
-#[derive(Drop)]
-pub(crate) struct Folder {
-    heads: Vec<Head>,
-    text: Vec<u8>,
-    room: usize,
-    ghost sized: { sizes (rows heads.items) ≡ length text.items },
-    ghost apart: { IsTrue (are_apart (files (rows heads.items) text.items)) },
-    ghost closed: { IsClosed heads.items },
-    ghost within: { length text.items ≤ room },
-    ghost countable: { room < 2 ^ 50 },
-    ghost text_reserved: { room ≤ vec_capacity text },
-    ghost heads_reserved: { room + room / 255 + 2 ≤ vec_capacity heads },
-    ghost few: { length heads.items ≤ room + room / 255 + 2 },
-}
 
 /// Where a file stands: its heads, its first byte, and its row.
 #[derive(Clone, Copy, Drop)]
@@ -60,7 +49,8 @@ fn put(text: &mut Vec<u8>, bytes: &[u8])
 fn find(heads: &[Head], text: &[u8], name: &[u8]) -> Option<Place>
     requires sized { sizes (rows heads.now) ≡ length text.now }
     requires few { 255 * length heads.now < 2 ^ 64 }
-    ensures { MatchOption result (lookup name.now (files (rows heads.now) text.now) ≡ None) (λ p. IsPlace name.now heads.now text.now p.from p.to p.at p.row) }
+    ensures { MatchOption result (lookup name.now (files (rows heads.now) text.now) ≡ None)
+        (λ p. IsPlace name.now heads.now text.now p.from p.to p.at p.row) }
 {
     let mut from = 0usize;
     let mut at = 0usize;
@@ -82,7 +72,7 @@ fn find(heads: &[Head], text: &[u8], name: &[u8]) -> Option<Place>
 
 impl Folder {
     pub(crate) fn start(alloc: Global, room: u64) -> Result<Folder, NoMemory>
-        ensures files { IfOk result (λ f. files (rows f.heads.items) f.text.items ≡ []) }
+        ensures files { IfOk result (λ f. contents f ≡ []) }
         ensures room { IfOk result (λ f. f.room ≡ room) }
     {
         if room >= TOO_MUCH {
@@ -101,7 +91,7 @@ impl Folder {
 
     /// The bytes of the names and of what they hold.
     pub(crate) fn len(&self) -> usize
-        ensures total { result ≡ total (files (rows self.now.heads.items) self.now.text.items) }
+        ensures total { result ≡ total (contents self.now) }
         ensures within { result ≤ self.now.room }
     {
         self.text.len()
@@ -115,7 +105,7 @@ impl Folder {
 
     /// What the file of this name holds.
     pub(crate) fn get(&self, name: &[u8]) -> Option<&[u8]>
-        ensures { option_map (λ r. r.now) result ≡ lookup name.now (files (rows self.now.heads.items) self.now.text.items) }
+        ensures { option_map (λ r. r.now) result ≡ lookup name.now (contents self.now) }
     {
         match find(self.heads.as_slice(), self.text.as_slice(), name) {
             Some(place) => {
@@ -126,9 +116,30 @@ impl Folder {
         }
     }
 
+    /// A copy of what the file of this name holds, where it isn't longer than this.
+    pub(crate) fn copy(&self, alloc: Global, name: &[u8], most: u64) -> Result<Vec<u8>, FetchError>
+        ensures bytes { IfOk result (λ v. lookup name.now (contents self.now) ≡ Some v.items) }
+        ensures within { IfOk result (λ v. length v.items ≤ most) }
+        ensures absent { (result ≡ Err FetchError.Failed) ↔ (lookup name.now (contents self.now) ≡ None) }
+        ensures long { (result ≡ Err FetchError.TooLong) ↔ IsPast most (lookup name.now (contents self.now)) }
+    {
+        match self.get(name) {
+            None => Err(FetchError::Failed),
+            Some(bytes) => {
+                if bytes.len() as u64 > most {
+                    return Err(FetchError::TooLong);
+                }
+                match Vec::from_slice(alloc, bytes) {
+                    Ok(copy) => Ok(copy),
+                    Err(_) => Err(FetchError::NoMemory),
+                }
+            }
+        }
+    }
+
     /// The bytes of this name and of what it holds, 0 where there is no such file.
     pub(crate) fn size(&self, name: &[u8]) -> usize
-        ensures { total (without name.now (files (rows self.now.heads.items) self.now.text.items)) + result ≡ total (files (rows self.now.heads.items) self.now.text.items) }
+        ensures { total (without name.now (contents self.now)) + result ≡ total (contents self.now) }
     {
         match find(self.heads.as_slice(), self.text.as_slice(), name) {
             Some(place) => place.row.name + place.row.bytes,
@@ -138,10 +149,10 @@ impl Folder {
 
     /// Takes the file of this name away.
     pub(crate) fn remove(&mut self, name: &[u8])
-        ensures files { files (rows self.new.heads.items) self.new.text.items ≡ without name.now (files (rows self.old.heads.items) self.old.text.items) }
-        ensures gone { lookup name.now (files (rows self.new.heads.items) self.new.text.items) ≡ None }
-        ensures others { (n : List ℕ) → n ≢ name.now → lookup n (files (rows self.new.heads.items) self.new.text.items) ≡ lookup n (files (rows self.old.heads.items) self.old.text.items) }
-        ensures total { total (files (rows self.new.heads.items) self.new.text.items) ≤ total (files (rows self.old.heads.items) self.old.text.items) }
+        ensures files { contents self.new ≡ without name.now (contents self.old) }
+        ensures gone { lookup name.now (contents self.new) ≡ None }
+        ensures others { (n : List ℕ) → n ≢ name.now → lookup n (contents self.new) ≡ lookup n (contents self.old) }
+        ensures total { total (contents self.new) ≤ total (contents self.old) }
         ensures room { self.new.room ≡ self.old.room }
     {
         if let Some(place) = find(self.heads.as_slice(), self.text.as_slice(), name) {
@@ -153,11 +164,12 @@ impl Folder {
 
     /// Puts a file in the place of the one of this name.
     pub(crate) fn replace(&mut self, name: &[u8], bytes: &[u8])
-        requires { total (without name.now (files (rows self.old.heads.items) self.old.text.items)) + (length name.now + length bytes.now) ≤ self.old.room }
-        ensures files { files (rows self.new.heads.items) self.new.text.items ≡ replaced name.now bytes.now (files (rows self.old.heads.items) self.old.text.items) }
-        ensures held { lookup name.now (files (rows self.new.heads.items) self.new.text.items) ≡ Some bytes.now }
-        ensures others { (n : List ℕ) → n ≢ name.now → lookup n (files (rows self.new.heads.items) self.new.text.items) ≡ lookup n (files (rows self.old.heads.items) self.old.text.items) }
-        ensures total { total (files (rows self.new.heads.items) self.new.text.items) ≡ total (without name.now (files (rows self.old.heads.items) self.old.text.items)) + (length name.now + length bytes.now) }
+        requires { total (without name.now (contents self.old)) + (length name.now + length bytes.now) ≤ self.old.room }
+        ensures files { contents self.new ≡ replaced name.now bytes.now (contents self.old) }
+        ensures held { lookup name.now (contents self.new) ≡ Some bytes.now }
+        ensures others { (n : List ℕ) → n ≢ name.now → lookup n (contents self.new) ≡ lookup n (contents self.old) }
+        ensures total { total (contents self.new)
+            ≡ total (without name.now (contents self.old)) + (length name.now + length bytes.now) }
         ensures room { self.new.room ≡ self.old.room }
     {
         self.remove(name);
@@ -166,12 +178,12 @@ impl Folder {
 
     /// Puts a file behind the others.
     fn add(&mut self, name: &[u8], bytes: &[u8])
-        requires absent { lookup name.now (files (rows self.old.heads.items) self.old.text.items) ≡ None }
-        requires room { total (files (rows self.old.heads.items) self.old.text.items) + (length name.now + length bytes.now) ≤ self.old.room }
-        ensures files { files (rows self.new.heads.items) self.new.text.items ≡ files (rows self.old.heads.items) self.old.text.items ++ (name.now, bytes.now) ∷ [] }
-        ensures held { lookup name.now (files (rows self.new.heads.items) self.new.text.items) ≡ Some bytes.now }
-        ensures others { (n : List ℕ) → n ≢ name.now → lookup n (files (rows self.new.heads.items) self.new.text.items) ≡ lookup n (files (rows self.old.heads.items) self.old.text.items) }
-        ensures total { total (files (rows self.new.heads.items) self.new.text.items) ≡ total (files (rows self.old.heads.items) self.old.text.items) + (length name.now + length bytes.now) }
+        requires absent { lookup name.now (contents self.old) ≡ None }
+        requires room { total (contents self.old) + (length name.now + length bytes.now) ≤ self.old.room }
+        ensures files { contents self.new ≡ contents self.old ++ (name.now, bytes.now) ∷ [] }
+        ensures held { lookup name.now (contents self.new) ≡ Some bytes.now }
+        ensures others { (n : List ℕ) → n ≢ name.now → lookup n (contents self.new) ≡ lookup n (contents self.old) }
+        ensures total { total (contents self.new) ≡ total (contents self.old) + (length name.now + length bytes.now) }
         ensures room { self.new.room ≡ self.old.room }
     {
         let row = Row {

@@ -6,7 +6,8 @@ use std::hint::spin_loop;
 use std::marker::Model;
 use std::sync::atomic::{AtomicBool, Ordering};
 
-/// What each worker passes before each leg of its hart, with `after` false, and again between that leg and the next turn, with `after` true. `leg` counts from 0 per hart. It changes nothing that a clause names.
+/// What each worker passes before each leg of its hart, with `after` false, and again between that leg and the next
+/// turn, with `after` true. `leg` counts from 0 per hart. It changes nothing that a clause names.
 pub trait Gate: Sync {
     fn pass(&self, hart: u8, leg: u64, after: bool);
 }
@@ -21,7 +22,8 @@ impl Gate for OpenGate {
 
 const TRIES: u32 = 100_000_000;
 
-/// A gate that holds each of harts 0 and 1 at its pass after one leg until the other has come to its own, for a stated number of tries. Other harts pass at once.
+/// A gate that holds each of harts 0 and 1 at its pass after one leg until the other has come to its own, for a
+/// stated number of tries. Other harts pass at once.
 #[derive(Drop)]
 pub struct HoldGate {
     leg: u64,

@@ -12,6 +12,7 @@ mod mem_shelf;
 mod real;
 mod shelf;
 mod sink;
+mod stored;
 mod sure_shelf;
 #[cfg(test)]
 mod tests;

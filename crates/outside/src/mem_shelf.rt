@@ -1,14 +1,14 @@
 //! A shelf in memory, whose calls fail where it is told.
 
-ghost use Rattle.std.specs.Prelude.{◌≡◌, ◌≢◌, ◌++◌, ◌+◌, ◌≤◌, ◌<◌, ◌↔◌, ◌&&◌, ℕ, List, [], Bool, true, false, not, length, IsTrue, OnOk, OnErr, IfOk, IfSome, is_ok, is_some, nat_le, option_map, Option, Some, None, Err, Result, if◌then◌else◌, refl};
+ghost use Rattle.std.specs.Prelude.{◌≡◌, ◌≢◌, ◌≤◌, ◌↔◌, ℕ, List, [], true, not, length, IsTrue, OnOk, IfOk, IfSome, is_ok, is_some, option_map, Some, None, Err, if◌then◌else◌, refl};
 ghost use Rattle.outside.specs.Causes.{HasCause};
 ghost use Rattle.outside.specs.Fetching.{HasFetchCause, IsPast, has_failed};
-ghost use Rattle.outside.specs.Numbered.{fails_next, after_call};
-ghost use Rattle.outside.specs.Files.{lookup, without, replaced, total};
-ghost use Rattle.outside.specs.Shelves.{mem_shelf_at_start, draft_size, used, appended};
+ghost use Rattle.outside.specs.Numbered.{fails_next, after_call, GoesThrough};
+ghost use Rattle.outside.specs.Files.{lookup, without};
+ghost use Rattle.outside.specs.Shelves.{mem_shelf_at_start, used, appended, files_with, HasRoomFor, begins, appends, seen_of_shelf};
 
 use crate::calls::Calls;
-use crate::folder::Folder;
+use crate::stored::Folder;
 use crate::tray::Tray;
 use crate::{Failed, FetchError, NoMemory, Shelf};
 use std::alloc::Global;
@@ -30,13 +30,19 @@ impl Model for MemShelf {
 
     ghost Value = { shelves.MemShelfState };
 
-    ghost view = { λ s. record { files = contents s.folder; draft = shelves.draft_of s.writing s.name.bytes s.draft.bytes; room = s.folder.room; calls = s.calls } };
+    ghost view = { λ s. record {
+      files = contents s.folder;
+      draft = shelves.draft_of s.writing s.name.bytes s.draft.bytes;
+      room = s.folder.room;
+      calls = s.calls;
+    } };
 
     ghost invariant = { λ s. IsStored s.folder s.writing s.name s.draft };
 }
 
 impl MemShelf {
-    /// An empty shelf with room for so many bytes of names and what they hold, whose calls of these numbers, from 0, fail.
+    /// An empty shelf with room for so many bytes of names and what they hold, whose calls of these numbers, from
+    /// 0, fail.
     pub fn start(alloc: Global, room: u64, fails: &[u64]) -> Result<MemShelf, NoMemory>
         ensures { IfOk result (λ s. s ≡ mem_shelf_at_start room fails.now) }
     {
@@ -62,8 +68,8 @@ impl MemShelf {
 
     /// Puts these bytes under this name, and says whether there was room. It is none of the numbered calls.
     pub fn hold(&mut self, name: &str, bytes: &[u8]) -> bool
-        ensures fits { IsTrue result ↔ (total (without name.now self.old.files) + draft_size self.old.draft + (length name.now + length bytes.now) ≤ self.old.room) }
-        ensures files { self.new ≡ record self.old { files = if result then replaced name.now bytes.now self.old.files else self.old.files } }
+        ensures fits { IsTrue result ↔ HasRoomFor self.old name.now bytes.now }
+        ensures files { self.new ≡ record self.old { files = files_with result name.now bytes.now self.old.files } }
         ensures held { IsTrue result → lookup name.now self.new.files ≡ Some bytes.now }
         ensures others { (n : List ℕ) → n ≢ name.now → lookup n self.new.files ≡ lookup n self.old.files }
     {
@@ -95,15 +101,7 @@ impl MemShelf {
 }
 
 impl Shelf for MemShelf {
-    ghost tells = { λ _. true };
-
-    ghost held = { λ s n. lookup n s.files };
-
-    ghost draft = { λ s. s.draft };
-
-    ghost writing = { λ s. is_some s.draft };
-
-    ghost faults = { λ s. s.calls.faults };
+    ghost seen = { seen_of_shelf };
 
     ghost has = { λ _ _. Unit {0} };
 
@@ -114,9 +112,10 @@ impl Shelf for MemShelf {
         ensures within { IfOk result (λ v. length v.items ≤ most) }
         ensures listed { IsTrue (fails_next self.old.calls) → result ≡ Err FetchError.Failed }
         ensures absent { lookup name.now self.old.files ≡ None → result ≡ Err FetchError.Failed }
-        ensures failed { result ≡ Err FetchError.Failed → IsTrue (not (fails_next self.old.calls)) → lookup name.now self.old.files ≡ None }
+        ensures failed { result ≡ Err FetchError.Failed → GoesThrough self.old.calls → lookup name.now self.old.files ≡ None }
         ensures long { result ≡ Err FetchError.TooLong → IsPast most (lookup name.now self.old.files) }
-        ensures past { IsPast most (lookup name.now self.old.files) → IsTrue (not (fails_next self.old.calls)) → result ≡ Err FetchError.TooLong }
+        ensures past { IsPast most (lookup name.now self.old.files) → GoesThrough self.old.calls
+            → result ≡ Err FetchError.TooLong }
         ensures calls { self.new ≡ record self.old { calls = after_call self.old.calls (has_failed result) } }
         ensures cause { HasFetchCause self.old.calls.faults self.new.calls.faults result }
     {
@@ -124,27 +123,18 @@ impl Shelf for MemShelf {
             let Failed = self.calls.fault();
             return Err(FetchError::Failed);
         }
-        match self.folder.get(name.as_bytes()) {
-            None => {
-                let Failed = self.calls.fault();
-                Err(FetchError::Failed)
-            }
-            Some(bytes) => {
-                if bytes.len() as u64 > most {
-                    return Err(FetchError::TooLong);
-                }
-                match Vec::from_slice(alloc, bytes) {
-                    Ok(copy) => Ok(copy),
-                    Err(_) => Err(FetchError::NoMemory),
-                }
-            }
+        let result = self.folder.copy(alloc, name.as_bytes(), most);
+        if let Err(FetchError::Failed) = result {
+            let Failed = self.calls.fault();
         }
+        result
     }
 
     fn begin(&mut self, name: &str) -> Result<(), Failed>
-        ensures exact { is_ok result ≡ (not (fails_next self.old.calls) && nat_le (total (without name.now self.old.files) + length name.now) self.old.room) }
+        ensures exact { is_ok result ≡ begins self.old name.now }
         ensures draft { self.new.draft ≡ (if is_ok result then Some (name.now, []) else None) }
-        ensures files { self.new.files ≡ (if fails_next self.old.calls then self.old.files else without name.now self.old.files) }
+        ensures files { self.new.files
+            ≡ (if fails_next self.old.calls then self.old.files else without name.now self.old.files) }
         ensures others { (n : List ℕ) → n ≢ name.now → lookup n self.new.files ≡ lookup n self.old.files }
         ensures room { self.new.room ≡ self.old.room }
         ensures calls { self.new.calls ≡ after_call self.old.calls (not (is_ok result)) }
@@ -166,9 +156,10 @@ impl Shelf for MemShelf {
 
     fn append(&mut self, bytes: &[u8]) -> Result<(), Failed>
         requires { is_some self.old.draft ≡ true }
-        ensures exact { is_ok result ≡ (not (fails_next self.old.calls) && nat_le (used self.old + length bytes.now) self.old.room) }
+        ensures exact { is_ok result ≡ appends self.old bytes.now }
         ensures draft { self.new.draft ≡ (if is_ok result then appended self.old.draft bytes.now else None) }
-        ensures rest { self.new ≡ record self.old { draft = self.new.draft; calls = after_call self.old.calls (not (is_ok result)) } }
+        ensures rest { self.new
+            ≡ record self.old { draft = self.new.draft; calls = after_call self.old.calls (not (is_ok result)) } }
         ensures cause { HasCause self.old.calls.faults self.new.calls.faults result }
     {
         if self.calls.next_fails() || self.folder.room() - self.used() < bytes.len() {
@@ -182,7 +173,7 @@ impl Shelf for MemShelf {
     #[tactic(auto, using(crate::proofs::Names::total_without_most))]
     fn finish(&mut self) -> Result<(), Failed>
         ensures exact { is_ok result ≡ not (fails_next self.old.calls) }
-        ensures files { IfSome self.old.draft (λ d. self.new.files ≡ (if is_ok result then replaced d.0 d.1 self.old.files else self.old.files)) }
+        ensures files { IfSome self.old.draft (λ d. self.new.files ≡ files_with (is_ok result) d.0 d.1 self.old.files) }
         ensures kept { OnOk result (IfSome self.old.draft (λ d. lookup d.0 self.new.files ≡ Some d.1)) }
         ensures others { IfSome self.old.draft (λ d. (n : List ℕ) → n ≢ d.0 → lookup n self.new.files ≡ lookup n self.old.files) }
         ensures draft { self.new.draft ≡ None }

@@ -1,7 +1,6 @@
 //! The adapters over the real terminal and clock. They tell nothing of what these hold.
-ghost use Rattle.std.specs.Prelude.{◌≡◌, ◌≢◌, ℕ, List, [], Bool, false, IfOk};
+ghost use Rattle.std.specs.Prelude.{◌≡◌, ◌≢◌, [], false, IfOk};
 ghost use Rattle.outside.specs.Causes.{HasCause};
-ghost use Rattle.outside.specs.declared.console.Asked.{Asked};
 
 use crate::{Asked, Clock, Console, Failed, Sink};
 use std::io::{ErrorKind, Read, Write};
@@ -17,7 +16,7 @@ pub struct StdConsole<R: Read + Send + Drop, W: Write + Send + Drop> {
 
 impl<R: Read + Send + Drop, W: Write + Send + Drop> StdConsole<R, W> {
     pub fn new(input: R, output: W) -> Self
-        ensures { ⟦<StdConsole<R, W> as Console>⟧.faults result ≡ 0 }
+        ensures { (⟦<StdConsole<R, W> as Console>⟧.seen result).faults ≡ 0 }
     {
         StdConsole {
             input,
@@ -47,15 +46,7 @@ fn read_byte<R: Read>(input: &mut R) -> Result<Asked, Failed>
 }
 
 impl<R: Read + Send + Drop, W: Write + Send + Drop> Console for StdConsole<R, W> {
-    ghost tells_answers = { λ _. false };
-
-    ghost tells_taken = { λ _. false };
-
-    ghost answers = { λ _. [] };
-
-    ghost taken = { λ _. [] };
-
-    ghost faults = { λ c. c.faults };
+    ghost seen = { λ c. record { tells_answers = false; answers = []; tells_taken = false; taken = []; faults = c.faults } };
 
     fn poll(&mut self) -> Result<Asked, Failed>
         ensures waits { IfOk result (λ asked. asked ≢ Asked.Nothing) }
@@ -99,9 +90,7 @@ impl<C: std::rt::Clock + Send + Drop> RealClock<C> {
 }
 
 impl<C: std::rt::Clock + Send + Drop> Clock for RealClock<C> {
-    ghost tells = { λ _. false };
-
-    ghost answers = { λ _. [] };
+    ghost seen = { λ _. record { tells = false; answers = [] } };
 
     fn now(&mut self) -> u64 {
         if let Some(start) = self.start {
@@ -124,18 +113,14 @@ pub struct StdSink<W: Write + Drop> {
 
 impl<W: Write + Drop> StdSink<W> {
     pub fn new(output: W) -> Self
-        ensures { ⟦<StdSink<W> as Sink>⟧.faults result ≡ 0 }
+        ensures { (⟦<StdSink<W> as Sink>⟧.seen result).faults ≡ 0 }
     {
         StdSink { output, faults: 0 }
     }
 }
 
 impl<W: Write + Drop> Sink for StdSink<W> {
-    ghost tells = { λ _. false };
-
-    ghost written = { λ _. [] };
-
-    ghost faults = { λ s. s.faults };
+    ghost seen = { λ s. record { tells = false; written = []; faults = s.faults } };
 
     fn put(&mut self, bytes: &[u8]) -> Result<(), Failed> {
         match self.output.write_all(bytes) {

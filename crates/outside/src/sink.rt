@@ -1,8 +1,10 @@
 //! The sink of the report, and those in memory.
 
-ghost use Rattle.std.specs.Prelude.{◌≡◌, ◌++◌, ◌+◌, ◌≤◌, ◌&&◌, ℕ, List, [], Bool, true, false, not, take, length, IsTrue, OnOk, OnErr, IfOk, is_ok, IsOk, nat_le, zero, if◌then◌else◌};
+ghost use Rattle.std.specs.Prelude.{◌≡◌, ◌++◌, [], false, not, OnOk, OnErr, IfOk, is_ok, IsOk, if◌then◌else◌};
 ghost use Rattle.outside.specs.Causes.{HasCause};
-ghost use Rattle.outside.specs.Numbered.{calls_at_start, fails_next, after_call};
+ghost use Rattle.outside.specs.Seen.{SeenSink, ToldBefore, Writes, WritesPart};
+ghost use Rattle.outside.specs.Numbered.{calls_at_start, after_call};
+ghost use Rattle.outside.specs.Sinks.{writes, seen_of_sink};
 
 use crate::calls::Calls;
 use crate::tray::Tray;
@@ -12,21 +14,15 @@ use std::marker::Model;
 
 /// Takes the report, piece by piece.
 pub trait Sink {
-    /// Whether it tells what was written.
-    ghost tells: { Self → Bool };
-
-    /// What was written, in order, where it tells.
-    ghost written: { Self → List ℕ };
-
-    /// The count of faults.
-    ghost faults: { Self → ℕ };
+    /// What contracts see of it.
+    ghost seen: { Self → SeenSink };
 
     /// Writes these bytes behind those written before. After `Failed` some first part of them may be written.
     fn put(&mut self, bytes: &[u8]) -> Result<(), Failed>
-        ensures tells { IsTrue (tells self.new) → IsTrue (tells self.old) }
-        ensures written { OnOk result (IsTrue (tells self.new) → written self.new ≡ written self.old ++ bytes.now) }
-        ensures part { OnErr result (IsTrue (tells self.new) → (n : ℕ) × (written self.new ≡ written self.old ++ take n bytes.now)) }
-        ensures cause { HasCause (faults self.old) (faults self.new) result };
+        ensures tells { ToldBefore (seen self.old).tells (seen self.new).tells }
+        ensures written { OnOk result (Writes bytes.now (seen self.old) (seen self.new)) }
+        ensures part { OnErr result (WritesPart bytes.now (seen self.old) (seen self.new)) }
+        ensures cause { HasCause (seen self.old).faults (seen self.new).faults result };
 }
 
 /// A sink in memory. All its memory is taken when it is made.
@@ -63,16 +59,12 @@ impl MemSink {
 }
 
 impl Sink for MemSink {
-    ghost tells = { λ _. true };
-
-    ghost written = { λ s. s.written };
-
-    ghost faults = { λ s. s.calls.faults };
+    ghost seen = { seen_of_sink };
 
     fn put(&mut self, bytes: &[u8]) -> Result<(), Failed>
-        ensures exact { is_ok result ≡ (not (fails_next self.old.calls) && nat_le (length self.old.written + length bytes.now) self.old.room) }
+        ensures exact { is_ok result ≡ writes self.old bytes.now }
         ensures written { self.new.written ≡ (if is_ok result then self.old.written ++ bytes.now else self.old.written) }
-        ensures part { OnErr result ((n : ℕ) × (self.new.written ≡ self.old.written ++ take n bytes.now)) }
+        ensures part { OnErr result (WritesPart bytes.now (seen_of_sink self.old) (seen_of_sink self.new)) }
         ensures room { self.new.room ≡ self.old.room }
         ensures calls { self.new.calls ≡ after_call self.old.calls (not (is_ok result)) }
         ensures cause { HasCause self.old.calls.faults self.new.calls.faults result }
@@ -90,18 +82,14 @@ pub struct SureSink;
 
 impl SureSink {
     pub fn start() -> SureSink
-        ensures { ⟦<SureSink as Sink>⟧.faults result ≡ 0 }
+        ensures { (⟦<SureSink as Sink>⟧.seen result).faults ≡ 0 }
     {
         SureSink
     }
 }
 
 impl Sink for SureSink {
-    ghost tells = { λ _. false };
-
-    ghost written = { λ _. [] };
-
-    ghost faults = { λ _. 0 };
+    ghost seen = { λ _. record { tells = false; written = []; faults = 0 } };
 
     fn put(&mut self, _bytes: &[u8]) -> Result<(), Failed>
         ensures { IsOk result }

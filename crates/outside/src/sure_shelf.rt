@@ -1,11 +1,12 @@
 //! A shelf in memory that never fails.
 
 ghost use Rattle.std.specs.Prelude.{◌≡◌, ◌≢◌, ◌+◌, ◌≤◌, ◌↔◌, ℕ, List, [], Bool, true, false, length, IsTrue, IsSome, IfOk, Option, Some, None, if◌then◌else◌, IsOk, Err, Result};
-ghost use Rattle.outside.specs.Files.{lookup, without, replaced, total};
+ghost use Rattle.outside.specs.Files.{lookup, without, total};
+ghost use Rattle.outside.specs.Shelves.{files_with};
 ghost use Rattle.outside.specs.Fetching.{IsPast};
 ghost use Rattle.std.proofs.Common.{rules};
 
-use crate::folder::Folder;
+use crate::stored::Folder;
 use crate::{Failed, FetchError, NoMemory, Shelf};
 use std::alloc::Global;
 use std::marker::Model;
@@ -39,8 +40,9 @@ impl SureShelf {
 
     /// Puts these bytes under this name, and says whether there was room.
     pub fn hold(&mut self, name: &str, bytes: &[u8]) -> bool
-        ensures fits { IsTrue result ↔ (total (without name.now self.old.files) + (length name.now + length bytes.now) ≤ self.old.room) }
-        ensures files { self.new ≡ record self.old { files = if result then replaced name.now bytes.now self.old.files else self.old.files } }
+        ensures fits { IsTrue result
+            ↔ (total (without name.now self.old.files) + (length name.now + length bytes.now) ≤ self.old.room) }
+        ensures files { self.new ≡ record self.old { files = files_with result name.now bytes.now self.old.files } }
         ensures held { IsTrue result → lookup name.now self.new.files ≡ Some bytes.now }
         ensures others { (n : List ℕ) → n ≢ name.now → lookup n self.new.files ≡ lookup n self.old.files }
     {
@@ -55,15 +57,7 @@ impl SureShelf {
 }
 
 impl Shelf for SureShelf {
-    ghost tells = { λ _. false };
-
-    ghost held = { λ _ _. None };
-
-    ghost draft = { λ _. None };
-
-    ghost writing = { λ s. s.writing };
-
-    ghost faults = { λ _. 0 };
+    ghost seen = { λ s. record { tells = false; held = λ _. None; draft = None; writing = s.writing; faults = 0 } };
 
     ghost has = { λ s n. IsSome (lookup n s.files) };
 
@@ -77,19 +71,7 @@ impl Shelf for SureShelf {
         ensures sure { result ≢ Err FetchError.Failed }
         ensures as_before { self.new ≡ self.old }
     {
-        match self.folder.get(name.as_bytes()) {
-            // No call comes here.
-            None => Err(FetchError::Failed),
-            Some(bytes) => {
-                if bytes.len() as u64 > most {
-                    return Err(FetchError::TooLong);
-                }
-                match Vec::from_slice(alloc, bytes) {
-                    Ok(copy) => Ok(copy),
-                    Err(_) => Err(FetchError::NoMemory),
-                }
-            }
-        }
+        self.folder.copy(alloc, name.as_bytes(), most)
     }
 
     fn begin(&mut self, _name: &str) -> Result<(), Failed>

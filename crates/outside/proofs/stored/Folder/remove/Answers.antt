@@ -5,7 +5,7 @@ use Rattle.outside.specs.Rows.{files, rows, IsClosed, IsPlace}
 use Rattle.outside.specs.Files.{are_apart, lookup, without, total}
 use Rattle.outside.proofs.Names.{apart_from, apart_to, apart_without, without_absent, lookup_without, lookup_without_other, total_without_most}
 use Rattle.outside.proofs.Texts.{removed_files, removed_sizes, cut_closed}
-use Rattle.outside.proofs.folder.Folder.remove.Goals as goal
+use Rattle.outside.proofs.stored.Folder.remove.Goals as goal
 
 pub invariant_of-self : goal.invariant_of-self
 invariant_of-self c =

@@ -4,7 +4,7 @@ use Rattle.outside.specs.Rows.{files, rows, IsPlace}
 use Rattle.outside.specs.Files.{lookup}
 use Rattle.outside.proofs.Names.{apart_from}
 use Rattle.outside.proofs.Texts.{size_here, size_absent}
-use Rattle.outside.proofs.folder.Folder.size.Goals as goal
+use Rattle.outside.proofs.stored.Folder.size.Goals as goal
 
 pub returns-in-Some : goal.returns-in-Some
 returns-in-Some c =
