@@ -11,14 +11,13 @@ use Rattle.rv_words.specs.declared.shared.Mode.TheVariants.{Read, Write}
 use Rattle.log_entry.specs.declared.log.Entry.{Entry}
 use Rattle.log_entry.specs.declared.log.Entry.TheVariants.{Gain, Yield, Poll, Touch, End}
 use Rattle.log_entry.specs.declared.log.Log.{Log}
-use Rattle.log_entry.specs.Parts.{is_some_and, holds_then, strength, conflict}
+use Rattle.log_entry.specs.Parts.{holds_then, strength, conflict}
 use Rattle.orders_law.specs.Orders.{below}
-use Rattle.order_rules.specs.Places.{harts, stream, entry_at, is_number, number_on, numbered}
+use Rattle.order_rules.specs.Places.{harts, entry_at, is_number, number_on, numbered}
 use Rattle.order_rules.specs.Rules.{held, held_after, breaks_o6}
 use Rattle.order_rules.specs.Orderly.{Keeps, o6}
-use Rattle.order_rules.specs.Laws.{IsSpot, CrewBefore}
-use Rattle.order_rules.proofs.Least.{none_passes}
-use Rattle.order_rules.proofs.Numbers.{in_stream, below_length, rows_from, of_hart}
+use Rattle.order_rules.specs.Laws.{CrewBefore}
+use Rattle.order_rules.proofs.Numbers.{kept_at, rows_from, of_hart}
 
 -- where an entry was found in the streams from a hart on
 pub record Found (test : Entry → Bool) (n : ℕ) (streams : List (List Entry)) (x : ℕ × Entry) : Type 0 where
@@ -134,9 +133,7 @@ keeps_o6 log page k x e kept is =
     let same : f.hart ≡ x = sym (zero-add f.hart) ∙ f.same in
     let there : slice_get log.streams x ≡ Some f.stream = subst (λ h. slice_get log.streams h ≡ Some f.stream) same f.there in
     let at : entry_at log x f.place ≡ Some e = ap (λ o. slice_get (unwrap_or o []) f.place) there ∙ f.at in
-    let spot : IsSpot log.streams (x, f.place) = (stream log x, in_stream log x f.place e at, below_length (stream log x) f.place e at) in
-    let right : o6 log (x, f.place) ≡ false = none_passes log (o6 log) (x, f.place) kept spot in
-    (f.place, sym (ap (λ o. is_some_and o (λ z. breaks_o6 log (record { hart = x; place = f.place; entry = z }))) at) ∙ right, f.passes)
+    (f.place, kept_at log (breaks_o6 log) x f.place e kept at, f.passes)
 
 -- a page and a number that are found are those of the entry
 named : (page k p seq : ℕ) → is_number k (if p == page then Some seq else None) ≡ true → (p ≡ page) × (seq ≡ k)

@@ -10,8 +10,8 @@ use Rattle.log_entry.specs.declared.log.Log.{Log}
 use Rattle.log_entry.specs.Parts.{page_number, is_some_and}
 use Rattle.order_rules.specs.Places.{Placed, stream, entry_at, entries, earlier, is_number, number_on}
 use Rattle.order_rules.specs.Rules.{is_misnumbered, breaks_o5}
-use Rattle.order_rules.specs.Orderly.{Keeps, o5}
-use Rattle.order_rules.specs.Laws.{IsSpot, NumbersName}
+use Rattle.order_rules.specs.Orderly.{spots, at_entry, Keeps, o5}
+use Rattle.order_rules.specs.Laws.{NumbersName}
 use Rattle.order_rules.proofs.Least.{none_passes}
 
 pub neither_holds : (a b : Bool) → (a || b) ≡ false → (a ≡ false) × (b ≡ false)
@@ -81,14 +81,19 @@ below_length [] i e at = absurd (none-some _ at)
 below_length (x ∷ s) zero e at = omega arith
 below_length (x ∷ s) (suc i) e at = let l = below_length s i e at in omega (arith, l)
 
+-- an entry of a log doesn't break a rule of entries that the log keeps
+pub kept_at : (log : Log) (test : Placed → Bool) (h i : ℕ) (e : Entry) → find (at_entry test log) (spots log) ≡ None → entry_at log h i ≡ Some e
+    → test (record { hart = h; place = i; entry = e }) ≡ false
+kept_at log test h i e kept at =
+    sym (ap (λ o. is_some_and o (λ z. test (record { hart = h; place = i; entry = z }))) at)
+    ∙ none_passes log (at_entry test log) (h, i) kept (stream log h, in_stream log h i e at, below_length (stream log h) i e at)
+
 -- the number on its page isn't one that stands earlier
 not_earlier : (log : Log) (h i page k : ℕ) (e : Entry) → Keeps log o5 → entry_at log h i ≡ Some e → page_number e ≡ Some (page, k)
     → (number_on page e ≡ Some k) × (list_any (λ z. is_number k (number_on page z)) (earlier log (record { hart = h; place = i; entry = e })) ≡ false)
 not_earlier log h i page k e kept at is =
     let x : Placed = record { hart = h; place = i; entry = e } in
-    let spot : IsSpot log.streams (h, i) = (stream log h, in_stream log h i e at, below_length (stream log h) i e at) in
-    let right : o5 log (h, i) ≡ false = none_passes log (o5 log) (h, i) kept spot in
-    let here : breaks_o5 log x ≡ false = sym (ap (λ o. is_some_and o (λ z. breaks_o5 log (record { hart = h; place = i; entry = z }))) at) ∙ right in
+    let here : breaks_o5 log x ≡ false = kept_at log (breaks_o5 log) h i e kept at in
     let numbered_right : is_misnumbered (number_on page) log x ≡ false = sym (ap (λ o. is_some_and o (λ p. is_misnumbered (number_on p.0) log x)) is) ∙ here in
     let number : number_on page e ≡ Some k =
     ap (option_and_then (λ z. if z.0 == page then Some z.1 else None)) is ∙ ap (λ b. if b then Some k else None) (eq-eqb page page refl) in

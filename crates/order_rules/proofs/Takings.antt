@@ -16,18 +16,15 @@ use Rattle.order_rules.specs.Places.{Placed, stream, entry_at, entries, earlier,
 use Rattle.order_rules.specs.Cursor.{Cursor, start, first_left, guard_is_met, counted, taken, take_one, least_left}
 use Rattle.order_rules.specs.Rules.{is_misnumbered, breaks_o8}
 use Rattle.order_rules.specs.Orderly.{Keeps, o5, o8, LeastOrderLeaves}
-use Rattle.order_rules.specs.Laws.{IsSpot, LeastTakesAll}
-use Rattle.order_rules.proofs.Least.{none_passes}
-use Rattle.order_rules.proofs.Numbers.{numbers_name, found_from, in_stream, below_length}
+use Rattle.order_rules.specs.Laws.{LeastTakesAll}
+use Rattle.order_rules.proofs.Numbers.{numbers_name, found_from, in_stream, kept_at}
 
 -- an entry with an ordinal is the one that the ordinal names
 pub ordinals_name : (log : Log) (h i k : ℕ) (e : Entry) → Keeps log o8 → entry_at log h i ≡ Some e → ordinal_of e ≡ Some k
     → find (λ x. is_number k (ordinal_of x.1)) (by_hart log) ≡ Some (h, e)
 ordinals_name log h i k e kept at is =
     let x : Placed = record { hart = h; place = i; entry = e } in
-    let spot : IsSpot log.streams (h, i) = (stream log h, in_stream log h i e at, below_length (stream log h) i e at) in
-    let right : o8 log (h, i) ≡ false = none_passes log (o8 log) (h, i) kept spot in
-    let here : breaks_o8 log x ≡ false = sym (ap (λ o. is_some_and o (λ z. breaks_o8 log (record { hart = h; place = i; entry = z }))) at) ∙ right in
+    let here : breaks_o8 log x ≡ false = kept_at log (breaks_o8 log) h i e kept at in
     let number : is_misnumbered ordinal_of log x ≡ false = (or_parts (is_misnumbered ordinal_of log x) _ here).0 in
     let open_up : (nat_le (count_by (λ z. is_some (ordinal_of z)) (entries log)) k || list_any (λ z. is_number k (ordinal_of z)) (earlier log x)) ≡ false =
     sym (ap (λ o. is_some_and o
