@@ -94,7 +94,8 @@ weaker None (Some Write) c l n = absurd (true≢false l)
 weaker (Some Read) (Some Write) c l n = absurd (true≢false l)
 weaker (Some Write) (Some Write) c l n = absurd (true≢false l)
 
-any_below : (test : ℕ → Bool) (n : ℕ) → list_any test (below n) ≡ false → (i : ℕ) → i < n → test i ≡ false
+-- where none of the numbers below one passes
+pub any_below : (test : ℕ → Bool) (n : ℕ) → list_any test (below n) ≡ false → (i : ℕ) → i < n → test i ≡ false
 any_below test zero e i l = absurd (omega arith)
 any_below test (suc n) e i l =
     let both = or_parts (list_any test (below n)) (test n || false) (sym (list_any-append test (below n) (n ∷ [])) ∙ e) in

@@ -16,17 +16,6 @@ use Rattle.privilege_directory.specs.Directory.{by_others, weight, AreFew}
 abbrev pub hold : List (Option Mode) → ℕ → Option Mode
 hold holds h = unwrap_or (slice_get holds h) None
 
-pub conflict_turned : (a b : Option Mode) → conflict a b ≡ conflict b a
-conflict_turned None None = refl
-conflict_turned None (Some Read) = refl
-conflict_turned None (Some Write) = refl
-conflict_turned (Some Read) None = refl
-conflict_turned (Some Write) None = refl
-conflict_turned (Some Read) (Some Read) = refl
-conflict_turned (Some Read) (Some Write) = refl
-conflict_turned (Some Write) (Some Read) = refl
-conflict_turned (Some Write) (Some Write) = refl
-
 -- what holds less conflicts no more
 pub less_conflict : (left was other : Option Mode) → strength left < strength was → conflict was other ≡ false → conflict left other ≡ false
 less_conflict None was other l e = refl
@@ -48,7 +37,8 @@ pub beside_write : (other : Option Mode) → conflict (Some Write) other ≡ fal
 beside_write None e = refl
 beside_write (Some m) e = let bad : ⊥ = cc in absurd bad
 
-pub weight-set : (holds : List (Option Mode)) (h : ℕ) (x : Option Mode) → h < length holds → weight (slice_set holds h x) + strength (hold holds h) ≡ weight holds + strength x
+pub weight-set : (holds : List (Option Mode)) (h : ℕ) (x : Option Mode) → h < length holds
+    → weight (slice_set holds h x) + strength (hold holds h) ≡ weight holds + strength x
 weight-set holds h x l = ap (λ o. weight (slice_set holds h x) + strength o) (unwrap_or-slice_get holds h None) ∙ sum_by-set strength holds h x None l
 
 hold_set_other : (holds : List (Option Mode)) (h g : ℕ) (x : Option Mode) → g ≢ h → hold (slice_set holds h x) g ≡ hold holds g
@@ -90,26 +80,33 @@ own_is_none h count = elim (eqb_tells h h) [
   | inr (f, d) ↦ absurd (d refl)
 ]
 
-pub others_and_one : (h g count : ℕ) (yields : List WaitFor) → g ≢ h → by_others g (yields ++ record { hart = h; count = count } ∷ []) ≡ by_others g yields ++ record { hart = h; count = count } ∷ []
+pub others_and_one : (h g count : ℕ) (yields : List WaitFor) → g ≢ h
+    → by_others g (yields ++ record { hart = h; count = count } ∷ []) ≡ by_others g yields ++ record { hart = h; count = count } ∷ []
 others_and_one h g count yields n =
-    filter-append (λ (w : WaitFor). not (w.hart == g)) yields (record { hart = h; count = count } ∷ []) ∙ ap (λ ys. by_others g yields ++ ys) (others_of_one h g count n)
+    filter-append (λ (w : WaitFor). not (w.hart == g)) yields (record { hart = h; count = count } ∷ [])
+    ∙ ap (λ ys. by_others g yields ++ ys) (others_of_one h g count n)
 
 pub others_and_own : (h count : ℕ) (yields : List WaitFor) → by_others h (yields ++ record { hart = h; count = count } ∷ []) ≡ by_others h yields
 others_and_own h count yields =
-    filter-append (λ (w : WaitFor). not (w.hart == h)) yields (record { hart = h; count = count } ∷ []) ∙ ap (λ ys. by_others h yields ++ ys) (own_is_none h count) ∙ append-nil (by_others h yields)
+    filter-append (λ (w : WaitFor). not (w.hart == h)) yields (record { hart = h; count = count } ∷ [])
+    ∙ ap (λ ys. by_others h yields ++ ys) (own_is_none h count) ∙ append-nil (by_others h yields)
 
 -- after a Yield there are few
-pub few_yielded : (holds : List (Option Mode)) (yields : List WaitFor) (h count : ℕ) (left : Option Mode) → AreFew holds yields → h < length holds → strength left < strength (hold holds h)
+pub few_yielded : (holds : List (Option Mode)) (yields : List WaitFor) (h count : ℕ) (left : Option Mode) → AreFew holds yields → h < length holds
+    → strength left < strength (hold holds h)
     → AreFew (slice_set holds h left) (yields ++ record { hart = h; count = count } ∷ [])
 few_yielded holds yields h count left few l less =
     let after = weight-set holds h left l in
-    let more : length (yields ++ record { hart = h; count = count } ∷ []) ≡ length yields + 1 = length-append yields (record { hart = h; count = count } ∷ []) in
+    let more : length (yields ++ record { hart = h; count = count } ∷ []) ≡ length yields + 1 =
+    length-append yields (record { hart = h; count = count } ∷ []) in
     record {
       all = let was = few.all in omega (arith, after, more);
       others = λ g m.
           let inside : g < length holds = omega (arith, m, length-set holds h left) in
           elim (cases_eq g h) [
-            | inl e ↦ subst (λ z. length (by_others z (yields ++ record { hart = h; count = count } ∷ [])) + weight (slice_set (slice_set holds h left) z None) ≤ MAX_HARTS - 1) (sym e)
+            | inl e ↦ subst
+                (λ z. length (by_others z (yields ++ record { hart = h; count = count } ∷ [])) + weight (slice_set (slice_set holds h left) z None)
+                ≤ MAX_HARTS - 1) (sym e)
                 (rw (others_and_own h count yields, set_twice holds h left None) (few.others h l))
             | inr n ↦
                 let longer : length (by_others g (yields ++ record { hart = h; count = count } ∷ [])) ≡ length (by_others g yields) + 1 =
@@ -126,19 +123,23 @@ few_yielded holds yields h count left few l less =
 abbrev pub NoneAgainst : List (Option Mode) → ℕ → Mode → Type 0
 NoneAgainst holds h mode = (g : ℕ) → g < length holds → g ≢ h → conflict (Some mode) (hold holds g) ≡ false
 
-few_after : (holds : List (Option Mode)) → weight holds ≤ MAX_HARTS → ((g : ℕ) → g < length holds → weight (slice_set holds g None) ≤ MAX_HARTS - 1) → AreFew holds []
+few_after : (holds : List (Option Mode)) → weight holds ≤ MAX_HARTS → ((g : ℕ) → g < length holds → weight (slice_set holds g None) ≤ MAX_HARTS - 1)
+    → AreFew holds []
 few_after holds a b = record { all = omega arith; others = λ h l. let c = b h l in omega arith }
 
-read_one : (holds : List (Option Mode)) (h g : ℕ) → h < length holds → NoneAgainst holds h Read → g < length holds → strength (hold (slice_set holds h (Some Read)) g) ≤ 1
+read_one : (holds : List (Option Mode)) (h g : ℕ) → h < length holds → NoneAgainst holds h Read → g < length holds
+    → strength (hold (slice_set holds h (Some Read)) g) ≤ 1
 read_one holds h g l none m = elim (cases_eq g h) [
-  | inl e ↦ subst (λ z. strength (hold (slice_set holds h (Some Read)) z) ≤ 1) (sym e) (let s : strength (hold (slice_set holds h (Some Read)) h) ≡ 1 = ap strength (hold_set_same holds h (Some Read) l) in omega arith)
+  | inl e ↦ subst (λ z. strength (hold (slice_set holds h (Some Read)) z) ≤ 1) (sym e)
+      (let s : strength (hold (slice_set holds h (Some Read)) h) ≡ 1 = ap strength (hold_set_same holds h (Some Read) l) in omega arith)
   | inr n ↦
       let s : strength (hold (slice_set holds h (Some Read)) g) ≡ strength (hold holds g) = ap strength (hold_set_other holds h g (Some Read) n) in
       let t : strength (hold holds g) ≤ 1 = beside_read (hold holds g) (none g m n) in
       omega arith
 ]
 
-less_one : (holds : List (Option Mode)) (g : ℕ) → ((k : ℕ) → k < length holds → strength (hold holds k) ≤ 1) → g < length holds → weight (slice_set holds g None) + 1 ≤ length holds
+less_one : (holds : List (Option Mode)) (g : ℕ) → ((k : ℕ) → k < length holds → strength (hold holds k) ≤ 1) → g < length holds
+    → weight (slice_set holds g None) + 1 ≤ length holds
 less_one [] g h l = absurd (omega arith)
 less_one (x ∷ xs) zero h l = let rest : weight xs ≤ length xs = ones xs (λ k m. h (suc k) (omega arith)) in omega (arith, sum_by-cons strength None xs)
 less_one (x ∷ xs) (suc g) h l =
@@ -147,7 +148,8 @@ less_one (x ∷ xs) (suc g) h l =
     omega (arith, sum_by-cons strength x (slice_set xs g None))
 
 -- after a Gain there are none
-pub few_gained : (mode : Mode) (holds : List (Option Mode)) (h : ℕ) → length holds ≤ MAX_HARTS → h < length holds → NoneAgainst holds h mode → AreFew (slice_set holds h (Some mode)) []
+pub few_gained : (mode : Mode) (holds : List (Option Mode)) (h : ℕ) → length holds ≤ MAX_HARTS → h < length holds → NoneAgainst holds h mode
+    → AreFew (slice_set holds h (Some mode)) []
 few_gained Read holds h most l none =
     let after = slice_set holds h (Some Read) in
     let size : length (slice_set holds h (Some Read)) ≡ length holds = length-set holds h (Some Read) in
@@ -163,4 +165,5 @@ few_gained Write holds h most l none =
     let before = weight-set holds h None l in
     let after = weight-set holds h (Some Write) l in
     let heavy : weight (slice_set holds h (Some Write)) ≡ 2 = omega (arith, alone, before, after) in
-    few_after (slice_set holds h (Some Write)) (omega (arith, heavy)) (λ g m. let w = weight-set (slice_set holds h (Some Write)) g None m in omega (arith, w, heavy))
+    few_after (slice_set holds h (Some Write)) (omega (arith, heavy))
+    (λ g m. let w = weight-set (slice_set holds h (Some Write)) g None m in omega (arith, w, heavy))

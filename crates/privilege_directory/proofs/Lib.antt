@@ -1,5 +1,5 @@
-pub mod Found
+pub mod FirstNumber
 pub mod Holds
 pub mod Table
-pub mod Told
+pub mod Others
 pub mod Follow

@@ -19,10 +19,14 @@ abbrev pub directory_at_start : ℕ → ℕ → Directory
 directory_at_start harts pages =
     record { holders = nobody pages harts; numbers = replicate pages 0; yields = replicate pages []; wants = replicate harts None }
 
+-- the least other of so many harts whose hold conflicts with the mode
+abbrev pub clash_in : List (Option Mode) → ℕ → ℕ → Mode → Option ℕ
+clash_in holds harts h mode =
+    find (λ g. not (g == h) && conflict (Some mode) (unwrap_or (slice_get holds g) None)) (range_with_len 0 harts)
+
 -- the least other hart that holds the page in conflict with the mode
 abbrev pub clash_of : Directory → ℕ → ℕ → Mode → Option ℕ
-clash_of d h page mode =
-    find (λ g. not (g == h) && conflict (Some mode) (held d.holders page g)) (range_with_len 0 (length d.wants))
+clash_of d h page mode = clash_in (row d.holders page) (length d.wants) h mode
 
 -- no other hart holds the page in conflict, and the mode is more than what the hart holds
 abbrev pub may_gain : Directory → ℕ → ℕ → Mode → Bool
@@ -63,7 +67,7 @@ pub record AreFew (holds : List (Option Mode)) (yields : List WaitFor) : Type 0 
   pub others : (h : ℕ) → h < length holds → length (by_others h yields) + weight (slice_set holds h None) ≤ MAX_HARTS - 1
 
 -- the parts are of one board, and the holders are CREW: concurrent readers or one exclusive writer
-pub record IsSound (d : Directory) : Type 0 where
+pub record IsDirectory (d : Directory) : Type 0 where
   pub crew : IsCrew d.holders
   pub harts : length d.wants ≤ MAX_HARTS
   pub rows : All (λ holds. length holds ≡ length d.wants) d.holders

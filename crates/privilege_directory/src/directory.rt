@@ -24,13 +24,23 @@ pub struct Directory {
 
 impl Model for Directory {
     ghost use Rattle.privilege_directory.specs.Directory as directory;
-    ghost use Rattle.privilege_directory.specs.Directory.{IsSound};
+    ghost use Rattle.privilege_directory.specs.Directory.{IsDirectory};
 
     ghost Value = { directory.Directory };
 
-    ghost view = { λ d. record { holders = d.holders.items; numbers = d.numbers.items; yields = d.yields.items; wants = d.wants.items } };
+    ghost view = { λ d. record {
+      holders = d.holders.items;
+      numbers = d.numbers.items;
+      yields = d.yields.items;
+      wants = d.wants.items;
+    } };
 
-    ghost invariant = { λ d. IsSound (record { holders = d.holders.items; numbers = d.numbers.items; yields = d.yields.items; wants = d.wants.items }) };
+    ghost invariant = { λ d. IsDirectory (record {
+      holders = d.holders.items;
+      numbers = d.numbers.items;
+      yields = d.yields.items;
+      wants = d.wants.items;
+    }) };
 }
 
 impl Directory {
@@ -92,6 +102,16 @@ impl Directory {
         ensures { result ≡ may_gain self.now hart page mode }
     {
         self.clash(hart, page, mode).is_none() && is_less(self.holds(hart, page), mode)
+    }
+
+    /// How many Yields a Gain of the page by the hart would have to wait for.
+    pub fn waiting(&self, hart: u8, page: u32) -> u64
+        requires hart { hart < length self.now.wants }
+        requires page { page < length self.now.holders }
+        ensures number { result ≡ length (by_others hart (yields_of self.now page)) }
+        ensures few { result ≤ MAX_HARTS - 1 }
+    {
+        self.yields[page as usize].others(hart)
     }
 
     /// The hart holds the page in this mode from now on. It gives the number of this Gain, and fills

@@ -1,10 +1,12 @@
-//! The waits of Gains. The function has no body: it promises the laws.
+//! The directory along a log. The function has no body: it promises the laws.
 
-ghost use Rattle.privilege_directory.specs.Laws.{WaitsBegin, WaitsStillFollow};
+ghost use Rattle.privilege_directory.specs.Laws.{AlongOrders, GivesEntries, AllowsEntries};
 
-/// At its start, and as harts then take the Gains and Yields of a log in the order of their numbers, what a
-/// directory has of the Yields since the latest Gain is what the log asks a next Gain to wait for.
+/// From a directory's start, as harts take the Gains and Yields of a log one by one, the directory has the next
+/// number of each page, its holders, and the Yields that a next Gain has to wait for. So each entry is what its
+/// call gives, and the call may be made.
 pub fn waits_follow()
-    ensures begin { WaitsBegin }
-    ensures step { WaitsStillFollow }
+    ensures along { AlongOrders }
+    ensures given { GivesEntries }
+    ensures allowed { AllowsEntries }
 {}

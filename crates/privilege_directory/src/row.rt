@@ -1,8 +1,8 @@
 //! What each hart holds of one page.
 
-ghost use Rattle.std.specs.Prelude.{◌≡◌, ◌==◌, ◌&&◌, ◌<◌, ◌≤◌, not, find, length, nat_lt, replicate, slice_get, slice_set, unwrap_or, None, Some, IfOk};
-ghost use Rattle.std.specs.List.{range_with_len};
+ghost use Rattle.std.specs.Prelude.{◌≡◌, ◌<◌, ◌≤◌, length, nat_lt, replicate, slice_get, slice_set, unwrap_or, None, Some, IfOk};
 ghost use Rattle.log_entry.specs.Parts.{strength, conflict};
+ghost use Rattle.privilege_directory.specs.Directory.{clash_in};
 
 use rv_words::Mode;
 use shared_types::NoMemory;
@@ -70,7 +70,7 @@ impl Row {
     /// The least other hart whose hold conflicts with the mode.
     pub(crate) fn clash(&self, hart: u8, mode: Mode) -> Option<u8>
         requires { length self.now ≤ 255 }
-        ensures { result ≡ find (λ g. not (g == hart) && conflict (Some mode) (unwrap_or (slice_get self.now g) None)) (range_with_len 0 (length self.now)) }
+        ensures { result ≡ clash_in self.now (length self.now) hart mode }
     {
         let harts = self.holds.len() as u8;
         for other in 0..harts {

@@ -26,6 +26,8 @@ fn a_writer_waits_for_the_readers_that_gave_the_page_up(rt: HostRuntime) -> Resu
     assert_eq!(rt; directory.yield_to(0, 0, 7, None), 2);
     assert_eq!(rt; directory.yield_to(1, 0, 9, None), 3);
     assert!(rt; directory.can_gain(2, 0, Mode::Write));
+    assert_eq!(rt; directory.waiting(2, 0), 2);
+    assert_eq!(rt; directory.waiting(1, 0), 1);
     assert_eq!(rt; directory.gain(2, 0, Mode::Write, &mut waits), 4);
     let first = WaitFor { hart: 0, count: 7 };
     let second = WaitFor { hart: 1, count: 9 };

@@ -56,6 +56,13 @@ impl Yields {
         &self.list[..self.number]
     }
 
+    /// How many Yields are by harts other than this one.
+    pub(crate) fn others(&self, hart: u8) -> u64
+        ensures { result ≡ length (by_others hart self.now) }
+    {
+        self.list().iter().filter(|wait| wait.hart != hart).count() as u64
+    }
+
     /// Adds the Yields by harts other than this one to the waits.
     pub(crate) fn tell_others(&self, hart: u8, waits: &mut Waits)
         requires empty { waits.old.items ≡ [] }
