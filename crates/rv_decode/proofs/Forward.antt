@@ -3,14 +3,17 @@ use Rattle.std.proofs.Common.{◌≡◌, ℕ, ◌+◌, ◌*◌, ◌/◌, ◌%◌
 use Rattle.std.specs.Prelude.{bit_and, Some, ℤ, pos, negsuc}
 use Rattle.std.proofs.lemmas.Nat.{and_mask}
 use Rattle.std.proofs.lemmas.Bool.Decides.{nat_tests}
-use Rattle.rv_decode.specs.Table.{table, meaning, rd_of, rs1_of, rs2_of, order_of, field, signed_field, imm_i, imm_s, imm_b, imm_j, load, reg, branch, store, imm, shift, csr, amo, upper, jal, jalr, load_reserved, store_conditional}
+use Rattle.rv_decode.specs.Table.{table, meaning, rd_of, rs1_of, rs2_of, order_of, field, signed_field, imm_i, imm_s, imm_b, imm_j, load, reg, branch, store}
+use Rattle.rv_decode.specs.Table.{imm, shift, csr, amo, upper, jal, jalr, load_reserved, store_conditional}
 use Rattle.rv_decode.specs.Fits.{Fits, IsSigned, IsEven}
 use Rattle.rv_decode.proofs.Rows.{settle}
-use Rattle.rv_decode.proofs.Groups.{opcode_and_funct3, with_funct7, with_funct5, with_rs2, ecall_at, ebreak_at, mret_at, wfi_at}
+use Rattle.rv_decode.proofs.Groups.{jal_at, opcode_and_funct3, with_funct7, with_funct5, with_rs2, ecall_at, ebreak_at, mret_at, wfi_at}
 use Rattle.rv_decode.proofs.Encoding.{meaning_encoded}
-use Rattle.rv_decode.specs.Encoding.{low_bits, upper_bits, branch_bits, load_bits, store_bits, imm_bits, shift_bits, reg_bits, csr_bits, amo_bits, with_imm_s, with_imm_b, with_imm_j, encoded}
+use Rattle.rv_decode.specs.Encoding.{low_bits, upper_bits, branch_bits, load_bits, store_bits, imm_bits, shift_bits, reg_bits, csr_bits, amo_bits, with_imm_s}
+use Rattle.rv_decode.specs.Encoding.{with_imm_b, with_imm_j, encoded}
 use Rattle.rv_decode.specs.declared.Instr.{Instr}
-use Rattle.rv_decode.specs.declared.Instr.TheVariants.{Upper, Jal, Jalr, Branch, Load, Store, Imm, Shift, Reg, Fence, FenceI, Ecall, Ebreak, Mret, Wfi, Csr, LoadReserved, StoreConditional, Amo}
+use Rattle.rv_decode.specs.declared.Instr.TheVariants.{Upper, Jal, Jalr, Branch, Load, Store, Imm, Shift, Reg, Fence, FenceI, Ecall, Ebreak, Mret, Wfi, Csr}
+use Rattle.rv_decode.specs.declared.Instr.TheVariants.{LoadReserved, StoreConditional, Amo}
 use Rattle.rv_decode.specs.declared.UpperOp.{UpperOp}
 use Rattle.rv_decode.specs.declared.UpperOp.TheVariants as upper_op
 use Rattle.rv_decode.specs.declared.BranchOp.{BranchOp}
@@ -276,10 +279,6 @@ amo_shape amo_op.Max = (lit< tt, refl, lit< tt)
 amo_shape amo_op.Minu = (lit< tt, refl, lit< tt)
 amo_shape amo_op.Maxu = (lit< tt, refl, lit< tt)
 
-jal_at : (w : ℕ) → bit_and w 0x7F ≡ 0x6F → meaning w ≡ Some (jal w)
-unfolding table
-jal_at w h = settle 0x7F 0x6F w h refl
-
 jalr_at : (w : ℕ) → bit_and w 0x707F ≡ 0x67 → meaning w ≡ Some (jalr w)
 unfolding table
 jalr_at w h = settle 0x707F 0x67 w h refl
@@ -365,10 +364,12 @@ encoded_means Mret f = mret_at
 encoded_means Wfi f = wfi_at
 
 -- the bounds of the layouts
-below_r : (m rd rs1 n : ℕ) → m < 2 ^ 32 → m / 2 ^ 15 % 2 ^ 10 ≡ 0 → m % 4096 < 128 → rd < 32 → rs1 < 32 → n < 32 → m + rd * 2 ^ 7 + rs1 * 2 ^ 15 + n * 2 ^ 20 < 2 ^ 32
+below_r : (m rd rs1 n : ℕ) → m < 2 ^ 32 → m / 2 ^ 15 % 2 ^ 10 ≡ 0 → m % 4096 < 128 → rd < 32 → rs1 < 32 → n < 32
+    → m + rd * 2 ^ 7 + rs1 * 2 ^ 15 + n * 2 ^ 20 < 2 ^ 32
 below_r m rd rs1 n a b c d e f = omega arith
 
-below_a : (m rd rs1 rs2 order : ℕ) → m < 2 ^ 32 → m / 2 ^ 15 % 2 ^ 12 ≡ 0 → m % 4096 < 128 → rd < 32 → rs1 < 32 → rs2 < 32 → order < 4 → m + rd * 2 ^ 7 + rs1 * 2 ^ 15 + rs2 * 2 ^ 20 + order * 2 ^ 25 < 2 ^ 32
+below_a : (m rd rs1 rs2 order : ℕ) → m < 2 ^ 32 → m / 2 ^ 15 % 2 ^ 12 ≡ 0 → m % 4096 < 128 → rd < 32 → rs1 < 32 → rs2 < 32 → order < 4
+    → m + rd * 2 ^ 7 + rs1 * 2 ^ 15 + rs2 * 2 ^ 20 + order * 2 ^ 25 < 2 ^ 32
 below_a m rd rs1 rs2 order a b c d e f g = omega arith
 
 below_i : (m rd rs1 n : ℕ) → m < 2 ^ 15 → m % 4096 < 128 → rd < 32 → rs1 < 32 → n < 2 ^ 12 → m + rd * 2 ^ 7 + rs1 * 2 ^ 15 + n * 2 ^ 20 < 2 ^ 32
@@ -384,7 +385,8 @@ pub encoded_below : (i : Instr) → Fits i → encoded i < 2 ^ 32
 encoded_below (Upper op rd imm) f = omega (arith, upper_shape op, f.0, f.1, f.2)
 encoded_below (Jal rd offset) f = omega (arith, f.0, (low_bits_21 offset f.2).0)
 encoded_below (Jalr rd rs1 offset) f = below_i 0x67 rd rs1 (low_bits 12 offset) (lit< tt) (lit< tt) f.0 f.1 (low_bits_12 offset)
-encoded_below (Branch op rs1 rs2 offset) f = let s = branch_shape op in below_b (branch_bits op) rs1 rs2 (low_bits 13 offset) s.0 s.1 f.0 f.1 (low_bits_13 offset f.3).0
+encoded_below (Branch op rs1 rs2 offset) f =
+    let s = branch_shape op in below_b (branch_bits op) rs1 rs2 (low_bits 13 offset) s.0 s.1 f.0 f.1 (low_bits_13 offset f.3).0
 encoded_below (Load op rd rs1 offset) f = let s = load_shape op in below_i (load_bits op) rd rs1 (low_bits 12 offset) s.0 s.1 f.0 f.1 (low_bits_12 offset)
 encoded_below (Store op rs1 rs2 offset) f = let s = store_shape op in below_s (store_bits op) rs1 rs2 (low_bits 12 offset) s.0 s.1 f.0 f.1 (low_bits_12 offset)
 encoded_below (Imm op rd rs1 imm) f = let s = imm_shape op in below_i (imm_bits op) rd rs1 (low_bits 12 imm) s.0 s.1 f.0 f.1 (low_bits_12 imm)

@@ -9,7 +9,8 @@ use Rattle.std.proofs.lemmas.Nat.Bits.{and_high}
 use Rattle.std.proofs.lemmas.Bool.{cases_eq}
 use Rattle.std.proofs.Common.{inl, inr}
 use Rattle.std.proofs.lemmas.Bool.Decides.{nat_tests}
-use Rattle.rv_decode.specs.Table.{table, meaning, field, load, reg, branch, store, imm, shift, csr, amo, rs2_of, upper, jal, jalr, load_reserved, store_conditional}
+use Rattle.rv_decode.specs.Table.{table, meaning, field, load, reg, branch, store, imm, shift, csr, amo, rs2_of, upper, jal, jalr, load_reserved}
+use Rattle.rv_decode.specs.Table.{store_conditional}
 use Rattle.rv_decode.specs.Ops.{load_op_of, reg_op_of, branch_op_of, store_op_of, imm_op_of, shift_op_of, csr_op_of, amo_op_of}
 use Rattle.rv_decode.specs.declared.Instr.{Instr}
 use Rattle.rv_decode.specs.declared.Instr.TheVariants.{Fence, FenceI, Ecall, Ebreak, Mret, Wfi}
@@ -37,7 +38,8 @@ zero_part k m = omega arith
 
 low_mask : (k w m : ℕ) → m < 2 ^ k → bit_and (w % 2 ^ k) m ≡ bit_and w m
 low_mask k w m h =
-    let e : bit_and w m ≡ bit_and (w / 2 ^ k) 0 * 2 ^ k + bit_and (w % 2 ^ k) m = subst (λ x. bit_and w x ≡ bit_and (w / 2 ^ k) 0 * 2 ^ k + bit_and (w % 2 ^ k) m) (zero_part k m) (and_parts k w 0 m h) in
+    let e : bit_and w m ≡ bit_and (w / 2 ^ k) 0 * 2 ^ k + bit_and (w % 2 ^ k) m =
+    subst (λ x. bit_and w x ≡ bit_and (w / 2 ^ k) 0 * 2 ^ k + bit_and (w % 2 ^ k) m) (zero_part k m) (and_parts k w 0 m h) in
     let z : bit_and (w / 2 ^ k) 0 ≡ 0 = and_zero_r (w / 2 ^ k) in
     sym (e ∙ ap (λ x. x * 2 ^ k + bit_and (w % 2 ^ k) m) z ∙ zero_part k (bit_and (w % 2 ^ k) m))
 
@@ -83,7 +85,8 @@ module _ (m base : ℕ) (answer : ℕ → ℕ → Option Instr) where
   unfoldable pub Answers : ℕ → Type 0
   Answers f = (w : ℕ) → bit_and w m ≡ f * 4096 + base → meaning w ≡ answer f w
 
-  pub by_funct3 : Answers 0 → Answers 1 → Answers 2 → Answers 3 → Answers 4 → Answers 5 → Answers 6 → Answers 7 → (w : ℕ) → bit_and w m ≡ field 12 3 w * 4096 + base → meaning w ≡ answer (field 12 3 w) w
+  pub by_funct3 : Answers 0 → Answers 1 → Answers 2 → Answers 3 → Answers 4 → Answers 5 → Answers 6 → Answers 7 → (w : ℕ)
+      → bit_and w m ≡ field 12 3 w * 4096 + base → meaning w ≡ answer (field 12 3 w) w
   unfolding Answers
   by_funct3 a b c d e f g h w k = below_8 Answers a b c d e f g h (field 12 3 w) (mod_below (w / 2 ^ 12) 8 (omega arith)) w k
 
@@ -238,7 +241,8 @@ reg_op_none top f n0 n1 n32 =
 
 pub regs : (w : ℕ) → bit_and w 0x7F ≡ 0x33 → meaning w ≡ option_map (λ op. reg op w) (reg_op_of (field 25 7 w) (field 12 3 w))
 regs w h =
-    let k : bit_and w 0xFE00707F ≡ field 25 7 w * 2 ^ 25 + (field 12 3 w * 4096 + 0x33) = with_funct7 w ∙ ap (λ x. field 25 7 w * 2 ^ 25 + x) (opcode_known 0x33 w h) in
+    let k : bit_and w 0xFE00707F ≡ field 25 7 w * 2 ^ 25 + (field 12 3 w * 4096 + 0x33) =
+    with_funct7 w ∙ ap (λ x. field 25 7 w * 2 ^ 25 + x) (opcode_known 0x33 w h) in
     let P : ℕ → Type 0 = λ t. meaning w ≡ option_map (λ op. reg op w) (reg_op_of t (field 12 3 w)) in
     by_eq (field 25 7 w) 0 (λ e. subst P (sym e) (regs_0 w (omega (arith, e, k)))) (λ n0.
     by_eq (field 25 7 w) 1 (λ e. subst P (sym e) (regs_1 w (omega (arith, e, k)))) (λ n1.
@@ -272,7 +276,8 @@ pub jal_at : (w : ℕ) → bit_and w 0x7F ≡ 0x6F → meaning w ≡ Some (jal w
 unfolding table
 jal_at w h = settle 0x7F 0x6F w h refl
 
-pub no_opcode : (w : ℕ) → list_any (λ x. bit_and w 0x7F == x) (0x37 ∷ 0x17 ∷ 0x6F ∷ 0x67 ∷ 0x63 ∷ 0x03 ∷ 0x23 ∷ 0x13 ∷ 0x33 ∷ 0x0F ∷ 0x73 ∷ 0x2F ∷ []) ≡ false → meaning w ≡ None
+pub no_opcode : (w : ℕ) → list_any (λ x. bit_and w 0x7F == x) (0x37 ∷ 0x17 ∷ 0x6F ∷ 0x67 ∷ 0x63 ∷ 0x03 ∷ 0x23 ∷ 0x13 ∷ 0x33 ∷ 0x0F ∷ 0x73 ∷ 0x2F ∷ []) ≡ false
+    → meaning w ≡ None
 unfolding table
 no_opcode w h = none_of 0 0 0x7F w (0x37 ∷ 0x17 ∷ 0x6F ∷ 0x67 ∷ 0x63 ∷ 0x03 ∷ 0x23 ∷ 0x13 ∷ 0x33 ∷ 0x0F ∷ 0x73 ∷ 0x2F ∷ []) (and_zero_r w) h refl
 
@@ -316,7 +321,8 @@ unfolding table
 wfi_at = settle 0xFFFFFFFF 0x10500073 0x10500073 refl refl
 
 -- without a CSR instruction's funct3 there are four words
-pub environment_none : (w : ℕ) → w < 2 ^ 32 → bit_and w 0x7F ≡ 0x73 → csr_op_of (field 12 3 w) ≡ None → w ≢ 0x73 → w ≢ 0x100073 → w ≢ 0x30200073 → w ≢ 0x10500073 → meaning w ≡ None
+pub environment_none : (w : ℕ) → w < 2 ^ 32 → bit_and w 0x7F ≡ 0x73 → csr_op_of (field 12 3 w) ≡ None → w ≢ 0x73 → w ≢ 0x100073 → w ≢ 0x30200073
+    → w ≢ 0x10500073 → meaning w ≡ None
 unfolding table
 environment_none w b h c a1 a2 a3 a4 =
     let k : bit_and w 0xFFFFFFFF ≡ w = and_mask w 32 ∙ mod_small w b in
@@ -333,10 +339,12 @@ pub ruleset environments = (ecall_at, ebreak_at, mret_at, wfi_at, environment_no
 shift_none_1 : (top : ℕ) → top ≢ 0 → shift_op_of top 1 ≡ None
 shift_none_1 top n = grind (arith, nat_tests)
 
-shift_at_1 : (w top : ℕ) → bit_and w 0xFE00707F ≡ top * 2 ^ 25 + 0x1013 → bit_and w 0xFE000000 ≡ top * 2 ^ 25 → bit_and w 0x707F ≡ 0x1013 → meaning w ≡ option_map (λ op. shift op w) (shift_op_of top 1)
+shift_at_1 : (w top : ℕ) → bit_and w 0xFE00707F ≡ top * 2 ^ 25 + 0x1013 → bit_and w 0xFE000000 ≡ top * 2 ^ 25 → bit_and w 0x707F ≡ 0x1013
+    → meaning w ≡ option_map (λ op. shift op w) (shift_op_of top 1)
 unfolding table
 shift_at_1 w top h k l =
-    by_eq top 0 (λ e. subst (λ t. meaning w ≡ option_map (λ op. shift op w) (shift_op_of t 1)) (sym e) (settle 0xFE00707F 0x1013 w (omega (arith, h, e)) refl)) (λ n.
+    by_eq top 0 (λ e. subst (λ t. meaning w ≡ option_map (λ op. shift op w) (shift_op_of t 1)) (sym e)
+    (settle 0xFE00707F 0x1013 w (omega (arith, h, e)) refl)) (λ n.
     let m : bit_and w 0xFE000000 ≢ 0 = λ e. n (omega (arith, e, k)) in
     let t : (top == 0) ≡ false = grind (arith, nat_tests) in
     none_of 0x707F 0x1013 0xFE000000 w (0 ∷ []) l (grind (arith, nat_tests)) refl ∙ sym (ap (option_map (λ op. shift op w)) (shift_none_1 top n)))
@@ -344,16 +352,21 @@ shift_at_1 w top h k l =
 shift_none_5 : (top : ℕ) → top ≢ 0 → top ≢ 32 → shift_op_of top 5 ≡ None
 shift_none_5 top n m = grind (arith, nat_tests)
 
-shift_at_5 : (w top : ℕ) → bit_and w 0xFE00707F ≡ top * 2 ^ 25 + 0x5013 → bit_and w 0xFE000000 ≡ top * 2 ^ 25 → bit_and w 0x707F ≡ 0x5013 → meaning w ≡ option_map (λ op. shift op w) (shift_op_of top 5)
+shift_at_5 : (w top : ℕ) → bit_and w 0xFE00707F ≡ top * 2 ^ 25 + 0x5013 → bit_and w 0xFE000000 ≡ top * 2 ^ 25 → bit_and w 0x707F ≡ 0x5013
+    → meaning w ≡ option_map (λ op. shift op w) (shift_op_of top 5)
 unfolding table
 shift_at_5 w top h k l =
-    by_eq top 0 (λ e. subst (λ t. meaning w ≡ option_map (λ op. shift op w) (shift_op_of t 5)) (sym e) (settle 0xFE00707F 0x5013 w (omega (arith, h, e)) refl)) (λ n.
-    by_eq top 32 (λ e. subst (λ t. meaning w ≡ option_map (λ op. shift op w) (shift_op_of t 5)) (sym e) (settle 0xFE00707F 0x40005013 w (omega (arith, h, e)) refl)) (λ n'.
+    by_eq top 0 (λ e. subst (λ t. meaning w ≡ option_map (λ op. shift op w) (shift_op_of t 5)) (sym e)
+    (settle 0xFE00707F 0x5013 w (omega (arith, h, e)) refl)) (λ n.
+    by_eq top 32 (λ e. subst (λ t. meaning w ≡ option_map (λ op. shift op w) (shift_op_of t 5)) (sym e)
+    (settle 0xFE00707F 0x40005013 w (omega (arith, h, e)) refl)) (λ n'.
     let m : bit_and w 0xFE000000 ≢ 0 = λ e. n (omega (arith, e, k)) in
     let m' : bit_and w 0xFE000000 ≢ 0x40000000 = λ e. n' (omega (arith, e, k)) in
-    none_of 0x707F 0x5013 0xFE000000 w (0 ∷ 0x40000000 ∷ []) l (grind (arith, nat_tests)) refl ∙ sym (ap (option_map (λ op. shift op w)) (shift_none_5 top n n'))))
+    none_of 0x707F 0x5013 0xFE000000 w (0 ∷ 0x40000000 ∷ []) l (grind (arith, nat_tests)) refl
+    ∙ sym (ap (option_map (λ op. shift op w)) (shift_none_5 top n n'))))
 
-pub shifts : (w : ℕ) → bit_and w 0x7F ≡ 0x13 → imm_op_of (field 12 3 w) ≡ None → meaning w ≡ option_map (λ op. shift op w) (shift_op_of (field 25 7 w) (field 12 3 w))
+pub shifts : (w : ℕ) → bit_and w 0x7F ≡ 0x13 → imm_op_of (field 12 3 w) ≡ None
+    → meaning w ≡ option_map (λ op. shift op w) (shift_op_of (field 25 7 w) (field 12 3 w))
 shifts w h c =
     let k : bit_and w 0xFE000000 ≡ field 25 7 w * 2 ^ 25 = and_high w 7 25 in
     let j : bit_and w 0xFE00707F ≡ field 25 7 w * 2 ^ 25 + bit_and w 0x707F = with_funct7 w in
@@ -393,7 +406,8 @@ store_conditional_at w h z t = settle 0xF800707F 0x1800202F w (omega (arith, ato
 amo_op_none : (t : ℕ) → t ≢ 1 → t ≢ 0 → t ≢ 4 → t ≢ 12 → t ≢ 8 → t ≢ 16 → t ≢ 20 → t ≢ 24 → t ≢ 28 → amo_op_of t ≡ None
 amo_op_none t n1 n0 n4 n12 n8 n16 n20 n24 n28 = grind (arith, nat_tests)
 
-pub amos : (w : ℕ) → bit_and w 0x7F ≡ 0x2F → field 12 3 w ≡ 2 → field 27 5 w ≢ 2 → field 27 5 w ≢ 3 → meaning w ≡ option_map (λ op. amo op w) (amo_op_of (field 27 5 w))
+pub amos : (w : ℕ) → bit_and w 0x7F ≡ 0x2F → field 12 3 w ≡ 2 → field 27 5 w ≢ 2 → field 27 5 w ≢ 3
+    → meaning w ≡ option_map (λ op. amo op w) (amo_op_of (field 27 5 w))
 unfolding table
 amos w h z a b =
     let k : bit_and w 0xF800707F ≡ field 27 5 w * 2 ^ 27 + 0x202F = atomic_known w h z in
@@ -419,6 +433,8 @@ amos w h z a b =
     let m20 : bit_and w 0xF8000000 ≢ 0xa0000000 = λ e. n20 (omega (arith, e, l)) in
     let m24 : bit_and w 0xF8000000 ≢ 0xc0000000 = λ e. n24 (omega (arith, e, l)) in
     let m28 : bit_and w 0xF8000000 ≢ 0xe0000000 = λ e. n28 (omega (arith, e, l)) in
-    none_of 0x7F 0x2F 0xF8000000 w (0x10000000 ∷ 0x18000000 ∷ 0x8000000 ∷ 0x0 ∷ 0x20000000 ∷ 0x60000000 ∷ 0x40000000 ∷ 0x80000000 ∷ 0xa0000000 ∷ 0xc0000000 ∷ 0xe0000000 ∷ []) h (grind (arith, nat_tests)) refl ∙ sym (ap (option_map (λ op. amo op w)) (amo_op_none (field 27 5 w) n1 n0 n4 n12 n8 n16 n20 n24 n28)))))))))))
+    none_of 0x7F 0x2F 0xF8000000 w (0x10000000 ∷ 0x18000000 ∷ 0x8000000 ∷ 0x0 ∷ 0x20000000 ∷ 0x60000000 ∷ 0x40000000 ∷ 0x80000000 ∷ 0xa0000000 ∷ 0xc0000000 ∷
+    0xe0000000 ∷ []) h (grind (arith, nat_tests)) refl
+    ∙ sym (ap (option_map (λ op. amo op w)) (amo_op_none (field 27 5 w) n1 n0 n4 n12 n8 n16 n20 n24 n28)))))))))))
 
 pub ruleset atomics = (atomic_none, load_reserved_at, load_reserved_none, store_conditional_at, amos)

@@ -8,15 +8,9 @@ use Rattle.std.proofs.lemmas.Bool.Decides.{nat_tests}
 use Rattle.rv_decode.specs.Table.{Row, table, matches, meaning}
 use Rattle.std.specs.Int.Bits.{and_self}
 use Rattle.std.specs.Prelude.{All, AllPairs}
-use Rattle.std.proofs.lemmas.Bool.{eqb-true}
+use Rattle.std.proofs.lemmas.Bool.{eqb-true, and_parts}
 use Rattle.std.proofs.lemmas.List.Kept.{AllPairs-cons}
 use Rattle.std.proofs.lemmas.List.Elements.{All-cons}
-
-and_l : (a b : Bool) → (a && b) ≡ true → a ≡ true
-and_l a b h = grind (arith, nat_tests)
-
-and_r : (a b : Bool) → (a && b) ≡ true → b ≡ true
-and_r a b h = grind (arith, nat_tests)
 
 -- at most one row of the table matches: any two differ in a bit that both masks have
 abbrev pub apart : Row → Row → Bool
@@ -55,11 +49,11 @@ NeverBoth r s = (w : ℕ) → IsTrue (matches w r) → IsTrue (matches w s) → 
 
 pub each_apart : (rows : List Row) → all_apart rows ≡ true → AllPairs NeverBoth rows
 each_apart [] h = λ i j d less within. absurd (omega arith)
-each_apart (r ∷ rows) h = AllPairs-cons NeverBoth r rows (from_tests rows (and_l _ _ h)) (each_apart rows (and_r _ _ h))
+each_apart (r ∷ rows) h = AllPairs-cons NeverBoth r rows (from_tests rows (and_parts _ _ h).0) (each_apart rows (and_parts _ _ h).1)
   where
     from_tests : (rest : List Row) → list_all (apart r) rest ≡ true → All (NeverBoth r) rest
     from_tests [] t = λ i d within. absurd (omega arith)
-    from_tests (s ∷ rest) t = All-cons (NeverBoth r) s rest (λ w. both_match w r s (and_l _ _ t)) (from_tests rest (and_r _ _ t))
+    from_tests (s ∷ rest) t = All-cons (NeverBoth r) s rest (λ w. both_match w r s (and_parts _ _ t).0) (from_tests rest (and_parts _ _ t).1)
 
 known_twice : (m v w : ℕ) → bit_and w m ≡ v → bit_and v m ≡ v
 known_twice m v w e =
@@ -76,8 +70,8 @@ test_settled m v w r e h =
 find_settled : (m v w : ℕ) (rows : List Row) → bit_and w m ≡ v → list_all (settled m v) rows ≡ true → find (matches w) rows ≡ find (matches v) rows
 find_settled m v w [] e h = refl
 find_settled m v w (r ∷ rows) e h =
-    let t : matches w r ≡ matches v r = test_settled m v w r e (and_l _ _ h) in
-    let u : find (matches w) rows ≡ find (matches v) rows = find_settled m v w rows e (and_r _ _ h) in
+    let t : matches w r ≡ matches v r = test_settled m v w r e (and_parts _ _ h).0 in
+    let u : find (matches w) rows ≡ find (matches v) rows = find_settled m v w rows e (and_parts _ _ h).1 in
     rw (t, u)
 
 -- the bits `m` of a word, which are `v`, settle what it means
@@ -89,7 +83,8 @@ settle m v w e h = ap (option_map (λ (r : Row). r.instr w)) (find_settled m v w
 abbrev pub refuted : ℕ → ℕ → ℕ → List ℕ → Row → Bool
 refuted m v n vs r = not (bit_and r.match m == bit_and v r.mask) || ((bit_and n r.mask == n) && list_any (λ x. bit_and r.match n == x) vs)
 
-pub none_refuted : (m v n w : ℕ) (vs : List ℕ) (r : Row) → bit_and w m ≡ v → list_any (λ x. bit_and w n == x) vs ≡ false → refuted m v n vs r ≡ true → matches w r ≡ false
+pub none_refuted : (m v n w : ℕ) (vs : List ℕ) (r : Row) → bit_and w m ≡ v → list_any (λ x. bit_and w n == x) vs ≡ false → refuted m v n vs r ≡ true
+    → matches w r ≡ false
 none_refuted m v n w vs r e f h =
     let a : bit_and w r.mask ≡ r.match → bit_and r.match m ≡ bit_and v r.mask = shown m v w r.mask r.match e in
     let b : bit_and w r.mask ≡ r.match → bit_and r.match n ≡ bit_and (bit_and w n) r.mask = λ g. shown n (bit_and w n) w r.mask r.match refl g in
@@ -97,12 +92,14 @@ none_refuted m v n w vs r e f h =
     let d : bit_and r.match n ≡ bit_and w n → list_any (λ x. bit_and r.match n == x) vs ≡ false = λ g. ap (λ y. list_any (λ x. y == x) vs) g ∙ f in
     grind (arith, nat_tests)
 
-find_refuted : (m v n w : ℕ) (vs : List ℕ) (rows : List Row) → bit_and w m ≡ v → list_any (λ x. bit_and w n == x) vs ≡ false → list_all (refuted m v n vs) rows ≡ true → find (matches w) rows ≡ None
+find_refuted : (m v n w : ℕ) (vs : List ℕ) (rows : List Row) → bit_and w m ≡ v → list_any (λ x. bit_and w n == x) vs ≡ false
+    → list_all (refuted m v n vs) rows ≡ true → find (matches w) rows ≡ None
 find_refuted m v n w vs [] e f h = refl
 find_refuted m v n w vs (r ∷ rows) e f h =
-    let t : matches w r ≡ false = none_refuted m v n w vs r e f (and_l _ _ h) in
-    rw t (find_refuted m v n w vs rows e f (and_r _ _ h))
+    let t : matches w r ≡ false = none_refuted m v n w vs r e f (and_parts _ _ h).0 in
+    rw t (find_refuted m v n w vs rows e f (and_parts _ _ h).1)
 
-pub none_of : (m v n w : ℕ) (vs : List ℕ) → bit_and w m ≡ v → list_any (λ x. bit_and w n == x) vs ≡ false → list_all (refuted m v n vs) table ≡ true → meaning w ≡ None
+pub none_of : (m v n w : ℕ) (vs : List ℕ) → bit_and w m ≡ v → list_any (λ x. bit_and w n == x) vs ≡ false → list_all (refuted m v n vs) table ≡ true
+    → meaning w ≡ None
 unfolding meaning
 none_of m v n w vs e f h = ap (option_map (λ (r : Row). r.instr w)) (find_refuted m v n w vs table e f h)

@@ -2,7 +2,8 @@
 -- this; what `encode` promises is by the table.
 use Rattle.std.specs.Prelude.{ℕ, ℤ, pos, negsuc, ◌+◌, ◌-◌, ◌*◌, ◌/◌, ◌%◌, ◌^◌}
 use Rattle.rv_decode.specs.declared.Instr.{Instr}
-use Rattle.rv_decode.specs.declared.Instr.TheVariants.{Upper, Jal, Jalr, Branch, Load, Store, Imm, Shift, Reg, Fence, FenceI, Ecall, Ebreak, Mret, Wfi, Csr, LoadReserved, StoreConditional, Amo}
+use Rattle.rv_decode.specs.declared.Instr.TheVariants.{Upper, Jal, Jalr, Branch, Load, Store, Imm, Shift, Reg, Fence, FenceI, Ecall, Ebreak, Mret, Wfi, Csr}
+use Rattle.rv_decode.specs.declared.Instr.TheVariants.{LoadReserved, StoreConditional, Amo}
 use Rattle.rv_decode.specs.declared.UpperOp.{UpperOp}
 use Rattle.rv_decode.specs.declared.UpperOp.TheVariants as upper_op
 use Rattle.rv_decode.specs.declared.BranchOp.{BranchOp}

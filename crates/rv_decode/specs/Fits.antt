@@ -1,7 +1,8 @@
 -- The instructions whose fields are in range.
 use Rattle.std.specs.Prelude.{ℕ, ℤ, pos, negsuc, ◌≡◌, ◌%◌, ◌^◌, ◌<◌}
 use Rattle.rv_decode.specs.declared.Instr.{Instr}
-use Rattle.rv_decode.specs.declared.Instr.TheVariants.{Upper, Jal, Jalr, Branch, Load, Store, Imm, Shift, Reg, Fence, FenceI, Ecall, Ebreak, Mret, Wfi, Csr, LoadReserved, StoreConditional, Amo}
+use Rattle.rv_decode.specs.declared.Instr.TheVariants.{Upper, Jal, Jalr, Branch, Load, Store, Imm, Shift, Reg, Fence, FenceI, Ecall, Ebreak, Mret, Wfi, Csr}
+use Rattle.rv_decode.specs.declared.Instr.TheVariants.{LoadReserved, StoreConditional, Amo}
 use Rattle.std.specs.Prelude.{bit_and, Some, ◌↔◌}
 use Rattle.rv_decode.specs.Table.{meaning}
 

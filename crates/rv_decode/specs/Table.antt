@@ -7,7 +7,8 @@ use Rattle.std.specs.Prelude.{◌-ℤ◌, AllPairs, IsTrue}
 use Rattle.std.specs.List.{find}
 use Rattle.std.specs.Option.{option_map}
 use Rattle.rv_decode.specs.declared.Instr.{Instr}
-use Rattle.rv_decode.specs.declared.Instr.TheVariants.{Upper, Jal, Jalr, Branch, Load, Store, Imm, Shift, Reg, Fence, FenceI, Ecall, Ebreak, Mret, Wfi, Csr, LoadReserved, StoreConditional, Amo}
+use Rattle.rv_decode.specs.declared.Instr.TheVariants.{Upper, Jal, Jalr, Branch, Load, Store, Imm, Shift, Reg, Fence, FenceI, Ecall, Ebreak, Mret, Wfi, Csr}
+use Rattle.rv_decode.specs.declared.Instr.TheVariants.{LoadReserved, StoreConditional, Amo}
 use Rattle.rv_decode.specs.declared.UpperOp.{UpperOp}
 use Rattle.rv_decode.specs.declared.UpperOp.TheVariants.{Lui, Auipc}
 use Rattle.rv_decode.specs.declared.BranchOp.{BranchOp}

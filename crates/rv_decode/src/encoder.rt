@@ -209,6 +209,7 @@ fn with_order(bits: u32, rd: u8, rs1: u8, rs2: u8, order: u8) -> u32
         + u32::from(order) * 0x200_0000
 }
 
+#[rattlefmt::skip]
 fn word_of(i: Instr) -> u32
     requires { Fits i }
     ensures { result ≡ encoded i }
@@ -217,31 +218,11 @@ fn word_of(i: Instr) -> u32
         Instr::Upper { op, rd, imm } => upper_bits(op) + u32::from(rd) * 0x80 + imm,
         Instr::Jal { rd, offset } => 0x6f + u32::from(rd) * 0x80 + spread_j(low_21(offset)),
         Instr::Jalr { rd, rs1, offset } => with_rd(0x67, rd, rs1, low_12(offset)),
-        Instr::Branch {
-            op,
-            rs1,
-            rs2,
-            offset,
-        } => without_rd(branch_bits(op), rs1, rs2, spread_b(low_13(offset))),
-        Instr::Load {
-            op,
-            rd,
-            rs1,
-            offset,
-        } => with_rd(load_bits(op), rd, rs1, low_12(offset)),
-        Instr::Store {
-            op,
-            rs1,
-            rs2,
-            offset,
-        } => without_rd(store_bits(op), rs1, rs2, spread_s(low_12(offset))),
+        Instr::Branch { op, rs1, rs2, offset } => without_rd(branch_bits(op), rs1, rs2, spread_b(low_13(offset))),
+        Instr::Load { op, rd, rs1, offset } => with_rd(load_bits(op), rd, rs1, low_12(offset)),
+        Instr::Store { op, rs1, rs2, offset } => without_rd(store_bits(op), rs1, rs2, spread_s(low_12(offset))),
         Instr::Imm { op, rd, rs1, imm } => with_rd(imm_bits(op), rd, rs1, low_12(imm)),
-        Instr::Shift {
-            op,
-            rd,
-            rs1,
-            amount,
-        } => with_rd(shift_bits(op), rd, rs1, u32::from(amount)),
+        Instr::Shift { op, rd, rs1, amount } => with_rd(shift_bits(op), rd, rs1, u32::from(amount)),
         Instr::Reg { op, rd, rs1, rs2 } => with_rd(reg_bits(op), rd, rs1, u32::from(rs2)),
         Instr::Fence { word } => word,
         Instr::FenceI { word } => word,
@@ -249,26 +230,10 @@ fn word_of(i: Instr) -> u32
         Instr::Ebreak => 0x10_0073,
         Instr::Mret => 0x3020_0073,
         Instr::Wfi => 0x1050_0073,
-        Instr::Csr {
-            op,
-            rd,
-            rs1,
-            number,
-        } => with_rd(csr_bits(op), rd, rs1, u32::from(number)),
+        Instr::Csr { op, rd, rs1, number } => with_rd(csr_bits(op), rd, rs1, u32::from(number)),
         Instr::LoadReserved { rd, rs1, order } => with_order(0x1000_202f, rd, rs1, 0, order),
-        Instr::StoreConditional {
-            rd,
-            rs1,
-            rs2,
-            order,
-        } => with_order(0x1800_202f, rd, rs1, rs2, order),
-        Instr::Amo {
-            op,
-            rd,
-            rs1,
-            rs2,
-            order,
-        } => with_order(amo_bits(op), rd, rs1, rs2, order),
+        Instr::StoreConditional { rd, rs1, rs2, order } => with_order(0x1800_202f, rd, rs1, rs2, order),
+        Instr::Amo { op, rd, rs1, rs2, order } => with_order(amo_bits(op), rd, rs1, rs2, order),
     }
 }
 
@@ -302,6 +267,7 @@ fn is_21_bits(n: i32) -> bool
 
 impl Instr {
     /// Whether the fields are in range.
+    #[rattlefmt::skip]
     pub fn fits(&self) -> bool
         ensures { IsTrue result ↔ Fits self.now }
     {
@@ -309,65 +275,19 @@ impl Instr {
             Instr::Upper { op: _, rd, imm } => rd < 32 && imm % 0x1000 == 0,
             Instr::Jal { rd, offset } => rd < 32 && is_21_bits(offset),
             Instr::Jalr { rd, rs1, offset } => rd < 32 && rs1 < 32 && is_12_bits(offset),
-            Instr::Branch {
-                op: _,
-                rs1,
-                rs2,
-                offset,
-            } => rs1 < 32 && rs2 < 32 && is_13_bits(offset),
-            Instr::Load {
-                op: _,
-                rd,
-                rs1,
-                offset,
-            } => rd < 32 && rs1 < 32 && is_12_bits(offset),
-            Instr::Store {
-                op: _,
-                rs1,
-                rs2,
-                offset,
-            } => rs1 < 32 && rs2 < 32 && is_12_bits(offset),
-            Instr::Imm {
-                op: _,
-                rd,
-                rs1,
-                imm,
-            } => rd < 32 && rs1 < 32 && is_12_bits(imm),
-            Instr::Shift {
-                op: _,
-                rd,
-                rs1,
-                amount,
-            } => rd < 32 && rs1 < 32 && amount < 32,
-            Instr::Reg {
-                op: _,
-                rd,
-                rs1,
-                rs2,
-            } => rd < 32 && rs1 < 32 && rs2 < 32,
+            Instr::Branch { op: _, rs1, rs2, offset } => rs1 < 32 && rs2 < 32 && is_13_bits(offset),
+            Instr::Load { op: _, rd, rs1, offset } => rd < 32 && rs1 < 32 && is_12_bits(offset),
+            Instr::Store { op: _, rs1, rs2, offset } => rs1 < 32 && rs2 < 32 && is_12_bits(offset),
+            Instr::Imm { op: _, rd, rs1, imm } => rd < 32 && rs1 < 32 && is_12_bits(imm),
+            Instr::Shift { op: _, rd, rs1, amount } => rd < 32 && rs1 < 32 && amount < 32,
+            Instr::Reg { op: _, rd, rs1, rs2 } => rd < 32 && rs1 < 32 && rs2 < 32,
             Instr::Fence { word } => word & 0x707f == 0x000f,
             Instr::FenceI { word } => word & 0x707f == 0x100f,
             Instr::Ecall | Instr::Ebreak | Instr::Mret | Instr::Wfi => true,
-            Instr::Csr {
-                op: _,
-                rd,
-                rs1,
-                number,
-            } => rd < 32 && rs1 < 32 && number < 0x1000,
+            Instr::Csr { op: _, rd, rs1, number } => rd < 32 && rs1 < 32 && number < 0x1000,
             Instr::LoadReserved { rd, rs1, order } => rd < 32 && rs1 < 32 && order < 4,
-            Instr::StoreConditional {
-                rd,
-                rs1,
-                rs2,
-                order,
-            } => rd < 32 && rs1 < 32 && rs2 < 32 && order < 4,
-            Instr::Amo {
-                op: _,
-                rd,
-                rs1,
-                rs2,
-                order,
-            } => rd < 32 && rs1 < 32 && rs2 < 32 && order < 4,
+            Instr::StoreConditional { rd, rs1, rs2, order } => rd < 32 && rs1 < 32 && rs2 < 32 && order < 4,
+            Instr::Amo { op: _, rd, rs1, rs2, order } => rd < 32 && rs1 < 32 && rs2 < 32 && order < 4,
         }
     }
 }

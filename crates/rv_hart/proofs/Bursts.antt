@@ -13,7 +13,8 @@ use Rattle.rv_hart.specs.Moves.{after, with_csrs}
 use Rattle.rv_hart.specs.Bursts.{reads_csr, is_quiet, fetch_place, with_counted}
 use Rattle.rv_hart.specs.declared.effect.Fetch.TheVariants as fetch
 use Rattle.rv_hart.specs.declared.effect.Effect.{Effect}
-use Rattle.rv_hart.specs.declared.effect.Effect.TheVariants.{Sets, Jumps, Loads, Stores, Reserves, Commits, Fails, Updates, DeviceLoads, DeviceStores, WritesCsr, Returns, Traps}
+use Rattle.rv_hart.specs.declared.effect.Effect.TheVariants.{Sets, Jumps, Loads, Stores, Reserves, Commits, Fails, Updates, DeviceLoads, DeviceStores}
+use Rattle.rv_hart.specs.declared.effect.Effect.TheVariants.{WritesCsr, Returns, Traps}
 
 -- such an effect is the same whatever the control registers are
 pub effect_apart : (h : Hart) (c : Csrs) (i : Instr) (word : ℕ) → reads_csr i ≡ false → instr_effect (with_csrs c h) i word ≡ instr_effect h i word
@@ -39,7 +40,8 @@ effect_apart h c (instr.StoreConditional rd rs1 rs2 order) word e = refl
 effect_apart h c (instr.Amo op rd rs1 rs2 order) word e = refl
 
 -- and what it leaves but for them
-pub after_apart : (h : Hart) (c : Csrs) (e : Effect) (loaded : ℕ) → is_quiet e ≡ true → after (with_csrs c h) e loaded ≡ with_csrs (counted true None c) (after h e loaded)
+pub after_apart : (h : Hart) (c : Csrs) (e : Effect) (loaded : ℕ) → is_quiet e ≡ true
+    → after (with_csrs c h) e loaded ≡ with_csrs (counted true None c) (after h e loaded)
 after_apart h c (Sets rd value) loaded q = refl
 after_apart h c (Jumps rd target) loaded q = refl
 after_apart h c (Loads op rd at) loaded q = refl
@@ -55,7 +57,8 @@ after_apart h c Returns loaded q = let bad : ⊥ = cc in absurd bad
 after_apart h c (Traps cause value) loaded q = let bad : ⊥ = cc in absurd bad
 
 -- one move counted then makes it the whole move
-pub after_counted : (h : Hart) (e : Effect) (loaded : ℕ) → is_quiet e ≡ true → with_csrs (counted true None h.csrs) (with_csrs h.csrs (after h e loaded)) ≡ after h e loaded
+pub after_counted : (h : Hart) (e : Effect) (loaded : ℕ) → is_quiet e ≡ true
+    → with_csrs (counted true None h.csrs) (with_csrs h.csrs (after h e loaded)) ≡ after h e loaded
 after_counted h (Sets rd value) loaded q = refl
 after_counted h (Jumps rd target) loaded q = refl
 after_counted h (Loads op rd at) loaded q = refl

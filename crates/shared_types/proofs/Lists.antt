@@ -8,7 +8,9 @@
 -- lt-ltb, ltb-true, le-ltb, ltb-false, le-leb, leb-true, leb-false, eq-eqb, eqb-true, ne_eqb (comparisons and what
 -- they tell), and_parts, and_from, and_left, and_right, or_parts, or_from, or_left, or_right, false_from_ne_true,
 -- cases_Bool, none-some, same_Some, cond_some, find-append, map-append, list_any-append.
-use Rattle.std.proofs.Common.{◌≡◌, ◌≢◌, ◌⊎◌, inl, inr, ⊎_elim, ℕ, zero, suc, ◌<◌, Bool, true, false, cond, ◌||◌, if◌then◌else◌, List, [], ◌∷◌, ◌++◌, length, map, take, replicate, find, slice_get, slice_set, Option, Some, None, is_some, is_none, option_map, option_and_then, refl, sym, ap, ◌∙◌, subst, true≢false, arith}
+use Rattle.std.proofs.Common.{◌≡◌, ◌≢◌, ◌⊎◌, inl, inr, ⊎_elim, ℕ, zero, suc, ◌<◌, Bool, true, false, cond, ◌||◌, if◌then◌else◌, List, [], ◌∷◌, ◌++◌, length}
+use Rattle.std.proofs.Common.{map, take, replicate, find, slice_get, slice_set, Option, Some, None, is_some, is_none, option_map, option_and_then, refl, sym}
+use Rattle.std.proofs.Common.{ap, ◌∙◌, subst, true≢false, arith}
 use Rattle.std.specs.List.{list_any, list_all}
 use Rattle.std.specs.Option.{option_or}
 use Rattle.std.proofs.lemmas.Bool.{and_from, and_parts, or_from, or_parts, or_left, or_right}
