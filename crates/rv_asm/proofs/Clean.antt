@@ -6,7 +6,8 @@ use Rattle.std.proofs.lemmas.Bool.Decides.{nat_tests}
 use Rattle.std.specs.Fmt.{decimal, signed_decimal, digits}
 use Rattle.std.specs.Str.Parse.{AllDigits}
 use Rattle.rv_decode.specs.declared.Instr.{Instr}
-use Rattle.rv_decode.specs.declared.Instr.TheVariants.{Upper, Jal, Jalr, Branch, Load, Store, Imm, Shift, Reg, Fence, FenceI, Ecall, Ebreak, Mret, Wfi, Csr, LoadReserved, StoreConditional, Amo}
+use Rattle.rv_decode.specs.declared.Instr.TheVariants.{Upper, Jal, Jalr, Branch, Load, Store, Imm, Shift, Reg, Fence, FenceI, Ecall, Ebreak, Mret, Wfi, Csr}
+use Rattle.rv_decode.specs.declared.Instr.TheVariants.{LoadReserved, StoreConditional, Amo}
 use Rattle.rv_decode.specs.Fits.{Fits}
 use Rattle.rv_decode.specs.declared.UpperOp.{UpperOp}
 use Rattle.rv_decode.specs.declared.UpperOp.TheVariants as upper_op
@@ -27,7 +28,8 @@ use Rattle.rv_decode.specs.declared.CsrOp.TheVariants as csr_op
 use Rattle.rv_decode.specs.declared.AmoOp.{AmoOp}
 use Rattle.rv_decode.specs.declared.AmoOp.TheVariants as amo_op
 use Rattle.rv_asm.specs.Names.{upper_name, branch_name, load_name, store_name, imm_name, shift_name, reg_name, csr_name, amo_name, order_suffix}
-use Rattle.rv_asm.specs.Text.{hex_3, hex_8, with_hex, with_number, with_two_and_number, with_three, with_place, with_csr, with_address, with_two_and_address, with_word, csr_before, text}
+use Rattle.rv_asm.specs.Text.{hex_3, hex_8, with_hex, with_number, with_two_and_number, with_three, with_place, with_csr, with_address, with_two_and_address}
+use Rattle.rv_asm.specs.Text.{with_word, csr_before, text}
 use Rattle.rv_asm.specs.Grammar.{IsLine}
 use Rattle.rv_asm.specs.Scan.{line_text, LineFits}
 use Rattle.rv_asm.specs.declared.scan.Line.{Line}
@@ -111,13 +113,26 @@ csr_number name before a n b i j f g h =
       refl,
       (
         refl,
-        dec_on a (codes ", 0x" ++ (hex_3 n ++ (before ++ decimal b))) f
-            (refl, (refl, (refl, (refl, joined (hex_3 n) (before ++ decimal b) (digits_line (hex_3 n) (hex_3_digits n g)) (joined before (decimal b) j (dec b h)))))),
+        dec_on a (codes ", 0x" ++ (hex_3 n ++ (before ++ decimal b))) f (
+          refl,
+          (
+            refl,
+            (
+              refl,
+              (
+                refl,
+                joined (hex_3 n) (before ++ decimal b) (digits_line (hex_3 n) (hex_3_digits n g))
+                    (joined before (decimal b) j (dec b h)),
+              ),
+            ),
+          ),
+        ),
       ),
     )
 
 order_line : (order : ℕ) → order < 4 → IsLine (order_suffix order)
-order_line order h = below_4 (λ o. IsLine (order_suffix o)) tt (refl, (refl, (refl, tt))) (refl, (refl, (refl, tt))) (refl, (refl, (refl, (refl, (refl, tt))))) order h
+order_line order h =
+    below_4 (λ o. IsLine (order_suffix o)) tt (refl, (refl, (refl, tt))) (refl, (refl, (refl, tt))) (refl, (refl, (refl, (refl, (refl, tt))))) order h
 
 address : (name : List ℕ) (order a b : ℕ) → IsLine name → order < 4 → a < 2 ^ 32 → b < 2 ^ 32 → IsLine (with_address name order a b)
 address name order a b i o f g =
@@ -125,10 +140,12 @@ address name order a b i o f g =
     (joined (order_suffix order) (codes " x" ++ (decimal a ++ (codes ", (x" ++ (decimal b ++ codes ")")))) (order_line order o)
     (refl, (refl, dec_on a (codes ", (x" ++ (decimal b ++ codes ")")) f (refl, (refl, (refl, (refl, dec_on b (codes ")") g (refl, tt))))))))
 
-two_and_address : (name : List ℕ) (order a b c : ℕ) → IsLine name → order < 4 → a < 2 ^ 32 → b < 2 ^ 32 → c < 2 ^ 32 → IsLine (with_two_and_address name order a b c)
+two_and_address : (name : List ℕ) (order a b c : ℕ) → IsLine name → order < 4 → a < 2 ^ 32 → b < 2 ^ 32 → c < 2 ^ 32
+    → IsLine (with_two_and_address name order a b c)
 two_and_address name order a b c i o f g h =
     joined name (order_suffix order ++ (codes " x" ++ (decimal a ++ (codes ", x" ++ (decimal b ++ (codes ", (x" ++ (decimal c ++ codes ")"))))))) i
-    (joined (order_suffix order) (codes " x" ++ (decimal a ++ (codes ", x" ++ (decimal b ++ (codes ", (x" ++ (decimal c ++ codes ")")))))) (order_line order o) (
+    (joined (order_suffix order) (codes " x" ++ (decimal a ++ (codes ", x" ++ (decimal b ++ (codes ", (x" ++ (decimal c ++ codes ")"))))))
+    (order_line order o) (
       refl,
       (
         refl,
@@ -233,17 +250,19 @@ before_line csr_op.Csrrwi = tested (csr_before csr_op.Csrrwi) refl
 before_line csr_op.Csrrsi = tested (csr_before csr_op.Csrrsi) refl
 before_line csr_op.Csrrci = tested (csr_before csr_op.Csrrci) refl
 
-high_part : (n : ℕ) → n < 2 ^ 32 → n / 2 ^ 12 < 2 ^ 32
-high_part n h = omega arith
-
 pub text_line : (i : Instr) → Fits i → IsLine (text i)
-text_line (Upper op rd imm) f = hexed (upper_name op) rd (imm / 2 ^ 12) (upper_line op) (wide rd f.0) (high_part imm f.2)
+text_line (Upper op rd imm) f = hexed (upper_name op) rd (imm / 2 ^ 12) (upper_line op) (wide rd f.0) (let l = f.2 in omega (arith, l))
 text_line (Jal rd offset) f = numbered (codes "jal") rd offset (tested (codes "jal") refl) (wide rd f.0) (wider_size (size_of offset) (size_20 offset f.1))
-text_line (Jalr rd rs1 offset) f = place (codes "jalr") rd offset rs1 (tested (codes "jalr") refl) (wide rd f.0) (wider_size (size_of offset) (size_11 offset f.2)) (wide rs1 f.1)
-text_line (Branch op rs1 rs2 offset) f = two_and_number (branch_name op) rs1 rs2 offset (branch_line op) (wide rs1 f.0) (wide rs2 f.1) (wider_size (size_of offset) (size_12 offset f.2))
-text_line (Load op rd rs1 offset) f = place (load_name op) rd offset rs1 (load_line op) (wide rd f.0) (wider_size (size_of offset) (size_11 offset f.2)) (wide rs1 f.1)
-text_line (Store op rs1 rs2 offset) f = place (store_name op) rs2 offset rs1 (store_line op) (wide rs2 f.1) (wider_size (size_of offset) (size_11 offset f.2)) (wide rs1 f.0)
-text_line (Imm op rd rs1 imm) f = two_and_number (imm_name op) rd rs1 imm (imm_line op) (wide rd f.0) (wide rs1 f.1) (wider_size (size_of imm) (size_11 imm f.2))
+text_line (Jalr rd rs1 offset) f =
+    place (codes "jalr") rd offset rs1 (tested (codes "jalr") refl) (wide rd f.0) (wider_size (size_of offset) (size_11 offset f.2)) (wide rs1 f.1)
+text_line (Branch op rs1 rs2 offset) f =
+    two_and_number (branch_name op) rs1 rs2 offset (branch_line op) (wide rs1 f.0) (wide rs2 f.1) (wider_size (size_of offset) (size_12 offset f.2))
+text_line (Load op rd rs1 offset) f =
+    place (load_name op) rd offset rs1 (load_line op) (wide rd f.0) (wider_size (size_of offset) (size_11 offset f.2)) (wide rs1 f.1)
+text_line (Store op rs1 rs2 offset) f =
+    place (store_name op) rs2 offset rs1 (store_line op) (wide rs2 f.1) (wider_size (size_of offset) (size_11 offset f.2)) (wide rs1 f.0)
+text_line (Imm op rd rs1 imm) f =
+    two_and_number (imm_name op) rd rs1 imm (imm_line op) (wide rd f.0) (wide rs1 f.1) (wider_size (size_of imm) (size_11 imm f.2))
 text_line (Shift op rd rs1 amount) f = two_and_number (shift_name op) rd rs1 (pos amount) (shift_line op) (wide rd f.0) (wide rs1 f.1) (wide amount f.2)
 text_line (Reg op rd rs1 rs2) f = three (reg_name op) rd rs1 rs2 (reg_line op) (wide rd f.0) (wide rs1 f.1) (wide rs2 f.2)
 text_line (Fence word) f = worded (codes "fence") word (tested (codes "fence") refl) f.1
@@ -254,7 +273,8 @@ text_line Mret f = tested (codes "mret") refl
 text_line Wfi f = tested (codes "wfi") refl
 text_line (Csr op rd rs1 n) f = csr_number (csr_name op) (csr_before op) rd n rs1 (csr_line op) (before_line op) (wide rd f.0) f.2 (wide rs1 f.1)
 text_line (LoadReserved rd rs1 order) f = address (codes "lr.w") order rd rs1 (tested (codes "lr.w") refl) f.2 (wide rd f.0) (wide rs1 f.1)
-text_line (StoreConditional rd rs1 rs2 order) f = two_and_address (codes "sc.w") order rd rs2 rs1 (tested (codes "sc.w") refl) f.3 (wide rd f.0) (wide rs2 f.2) (wide rs1 f.1)
+text_line (StoreConditional rd rs1 rs2 order) f =
+    two_and_address (codes "sc.w") order rd rs2 rs1 (tested (codes "sc.w") refl) f.3 (wide rd f.0) (wide rs2 f.2) (wide rs1 f.1)
 text_line (Amo op rd rs1 rs2 order) f = two_and_address (amo_name op) order rd rs2 rs1 (amo_line op) f.3 (wide rd f.0) (wide rs2 f.2) (wide rs1 f.1)
 
 pub line_clean : (l : Line) → LineFits l → IsLine (line_text l)

@@ -3,7 +3,8 @@ use Rattle.std.proofs.Common.{◌≡◌, ℕ, ◌*◌, ◌/◌, ◌%◌, ◌^◌
 use Rattle.std.specs.Prelude.{ℤ, pos, negsuc, ◌==◌, if◌then◌else◌, codes, fold, Some}
 use Rattle.std.proofs.lemmas.List.Sums.{fold-append}
 use Rattle.std.specs.Fmt.{decimal, signed_decimal, digits}
-use Rattle.rv_decode.specs.declared.Instr.TheVariants.{Upper, Jal, Jalr, Branch, Load, Store, Imm, Shift, Reg, Fence, FenceI, Ecall, Ebreak, Mret, Wfi, Csr, LoadReserved, StoreConditional, Amo}
+use Rattle.rv_decode.specs.declared.Instr.TheVariants.{Upper, Jal, Jalr, Branch, Load, Store, Imm, Shift, Reg, Fence, FenceI, Ecall, Ebreak, Mret, Wfi, Csr}
+use Rattle.rv_decode.specs.declared.Instr.TheVariants.{LoadReserved, StoreConditional, Amo}
 use Rattle.rv_decode.specs.Fits.{IsSigned}
 use Rattle.rv_decode.specs.declared.UpperOp.{UpperOp}
 use Rattle.rv_decode.specs.declared.UpperOp.TheVariants as upper_op
@@ -25,14 +26,16 @@ use Rattle.rv_decode.specs.declared.AmoOp.{AmoOp}
 use Rattle.rv_decode.specs.declared.AmoOp.TheVariants as amo_op
 use Rattle.rv_asm.specs.Names.{upper_name, branch_name, load_name, store_name, imm_name, shift_name, reg_name, csr_name, amo_name, order_suffix}
 use Rattle.rv_asm.proofs.NameKeys.{upper_key, branch_key, load_key, store_key, imm_key, shift_key, reg_key, csr_key, amo_key}
-use Rattle.rv_asm.specs.Text.{hex_3, hex_8, with_hex, with_number, with_two_and_number, with_three, with_place, with_csr, with_address, with_two_and_address, with_word, csr_before}
+use Rattle.rv_asm.specs.Text.{hex_3, hex_8, with_hex, with_number, with_two_and_number, with_three, with_place, with_csr, with_address, with_two_and_address}
+use Rattle.rv_asm.specs.Text.{with_word, csr_before}
 use Rattle.rv_asm.specs.Scan.{line_text, LineFits}
 use Rattle.rv_asm.specs.declared.scan.Line.{Line}
 use Rattle.rv_asm.specs.declared.scan.Line.TheVariants.{Text, Word}
 use Rattle.rv_asm.specs.declared.scan.Phase.TheVariants.{Suffix}
 use Rattle.rv_asm.specs.declared.scan.Scan.{Scan}
 use Rattle.rv_asm.specs.Scan.{start, step, signed_of, low, line_of, atomic_line}
-use Rattle.rv_asm.proofs.Pieces.{ops, eat, eat_last, eat_hex, eat_signed, eat_signed_last, eat_hex_3, eat_hex_8, signed_again, size_of, minus_of, aside_hex, aside_ten}
+use Rattle.rv_asm.proofs.Pieces.{ops, eat, eat_last, eat_hex, eat_signed, eat_signed_last, eat_hex_3, eat_hex_8, signed_again, size_of, minus_of, aside_hex}
+use Rattle.rv_asm.proofs.Pieces.{aside_ten}
 
 -- the state behind the name and the blank
 abbrev pub blank : ℕ → ℕ → Scan
@@ -40,7 +43,20 @@ blank k x = ops k x 0 0 0 0 false 0 0 false
 
 -- the state behind `.w`
 abbrev pub dotted : ℕ → Scan
-dotted k = record { phase = Suffix; key = k; suffix = 0x77; third = 0; second = 0; previous = 0; previous_hex = 0; previous_minus = false; current = 0; current_hex = 0; current_minus = false }
+dotted k =
+    record {
+      phase = Suffix;
+      key = k;
+      suffix = 0x77;
+      third = 0;
+      second = 0;
+      previous = 0;
+      previous_hex = 0;
+      previous_minus = false;
+      current = 0;
+      current_hex = 0;
+      current_minus = false;
+    }
 
 -- two pieces, and the rest
 two : (name before rest : List ℕ) (s : Scan) → fold step (fold step start name) before ≡ s → fold step start (name ++ (before ++ rest)) ≡ fold step s rest
@@ -118,11 +134,14 @@ below_4 P a b c d (suc (suc (suc (suc n)))) h = absurd (omega arith)
 ordered : (k order : ℕ) → order < 4 → fold step (fold step (dotted k) (order_suffix order)) (codes " x") ≡ blank k (order_key order)
 ordered k order h = below_4 (λ o. fold step (fold step (dotted k) (order_suffix o)) (codes " x") ≡ blank k (order_key o)) refl refl refl refl order h
 
-ordered_line : (order k t n p q : ℕ) (pm : Bool) (c h : ℕ) (m : Bool) → order < 4 → line_of (ops k (order_key order) t n p q pm c h m) ≡ atomic_line (ops k (order_key order) t n p q pm c h m) (Some order)
-ordered_line order k t n p q pm c h m l = below_4 (λ o. line_of (ops k (order_key o) t n p q pm c h m) ≡ atomic_line (ops k (order_key o) t n p q pm c h m) (Some o)) refl refl refl refl order l
+ordered_line : (order k t n p q : ℕ) (pm : Bool) (c h : ℕ) (m : Bool) → order < 4
+    → line_of (ops k (order_key order) t n p q pm c h m) ≡ atomic_line (ops k (order_key order) t n p q pm c h m) (Some order)
+ordered_line order k t n p q pm c h m l =
+    below_4 (λ o. line_of (ops k (order_key o) t n p q pm c h m) ≡ atomic_line (ops k (order_key o) t n p q pm c h m) (Some o)) refl refl refl refl order l
 
 -- three pieces, and the rest
-with_suffix : (name rest : List ℕ) (k order : ℕ) → fold step start name ≡ dotted k → order < 4 → fold step start (name ++ (order_suffix order ++ (codes " x" ++ rest))) ≡ fold step (blank k (order_key order)) rest
+with_suffix : (name rest : List ℕ) (k order : ℕ) → fold step start name ≡ dotted k → order < 4
+    → fold step start (name ++ (order_suffix order ++ (codes " x" ++ rest))) ≡ fold step (blank k (order_key order)) rest
 with_suffix name rest k order e h =
     fold-append step start name (order_suffix order ++ (codes " x" ++ rest))
     ∙ ap (λ s. fold step s (order_suffix order ++ (codes " x" ++ rest))) e
@@ -150,7 +169,8 @@ upper_head : (op : UpperOp) → fold step (fold step start (upper_name op)) (cod
 upper_head upper_op.Lui = refl
 upper_head upper_op.Auipc = refl
 
-upper_found : (op : UpperOp) (t n p q : ℕ) (pm : Bool) (c h : ℕ) (m : Bool) → line_of (ops (upper_key op) 0 t n p q pm c h m) ≡ Some (Text (Upper op (low p) (h % 2 ^ 20 * 2 ^ 12)))
+upper_found : (op : UpperOp) (t n p q : ℕ) (pm : Bool) (c h : ℕ) (m : Bool)
+    → line_of (ops (upper_key op) 0 t n p q pm c h m) ≡ Some (Text (Upper op (low p) (h % 2 ^ 20 * 2 ^ 12)))
 upper_found upper_op.Lui t n p q pm c h m = refl
 upper_found upper_op.Auipc t n p q pm c h m = refl
 
@@ -162,7 +182,8 @@ branch_head branch_op.Bge = refl
 branch_head branch_op.Bltu = refl
 branch_head branch_op.Bgeu = refl
 
-branch_found : (op : BranchOp) (t n p q : ℕ) (pm : Bool) (c h : ℕ) (m : Bool) → line_of (ops (branch_key op) 0 t n p q pm c h m) ≡ Some (Text (Branch op (low n) (low p) (signed_of m c)))
+branch_found : (op : BranchOp) (t n p q : ℕ) (pm : Bool) (c h : ℕ) (m : Bool)
+    → line_of (ops (branch_key op) 0 t n p q pm c h m) ≡ Some (Text (Branch op (low n) (low p) (signed_of m c)))
 branch_found branch_op.Beq t n p q pm c h m = refl
 branch_found branch_op.Bne t n p q pm c h m = refl
 branch_found branch_op.Blt t n p q pm c h m = refl
@@ -177,7 +198,8 @@ load_head load_op.Lw = refl
 load_head load_op.Lbu = refl
 load_head load_op.Lhu = refl
 
-load_found : (op : LoadOp) (t n p q : ℕ) (pm : Bool) (c h : ℕ) (m : Bool) → line_of (ops (load_key op) 0 t n p q pm c h m) ≡ Some (Text (Load op (low n) (low c) (signed_of pm p)))
+load_found : (op : LoadOp) (t n p q : ℕ) (pm : Bool) (c h : ℕ) (m : Bool)
+    → line_of (ops (load_key op) 0 t n p q pm c h m) ≡ Some (Text (Load op (low n) (low c) (signed_of pm p)))
 load_found load_op.Lb t n p q pm c h m = refl
 load_found load_op.Lh t n p q pm c h m = refl
 load_found load_op.Lw t n p q pm c h m = refl
@@ -189,7 +211,8 @@ store_head store_op.Sb = refl
 store_head store_op.Sh = refl
 store_head store_op.Sw = refl
 
-store_found : (op : StoreOp) (t n p q : ℕ) (pm : Bool) (c h : ℕ) (m : Bool) → line_of (ops (store_key op) 0 t n p q pm c h m) ≡ Some (Text (Store op (low c) (low n) (signed_of pm p)))
+store_found : (op : StoreOp) (t n p q : ℕ) (pm : Bool) (c h : ℕ) (m : Bool)
+    → line_of (ops (store_key op) 0 t n p q pm c h m) ≡ Some (Text (Store op (low c) (low n) (signed_of pm p)))
 store_found store_op.Sb t n p q pm c h m = refl
 store_found store_op.Sh t n p q pm c h m = refl
 store_found store_op.Sw t n p q pm c h m = refl
@@ -202,7 +225,8 @@ imm_head imm_op.Xori = refl
 imm_head imm_op.Ori = refl
 imm_head imm_op.Andi = refl
 
-imm_found : (op : ImmOp) (t n p q : ℕ) (pm : Bool) (c h : ℕ) (m : Bool) → line_of (ops (imm_key op) 0 t n p q pm c h m) ≡ Some (Text (Imm op (low n) (low p) (signed_of m c)))
+imm_found : (op : ImmOp) (t n p q : ℕ) (pm : Bool) (c h : ℕ) (m : Bool)
+    → line_of (ops (imm_key op) 0 t n p q pm c h m) ≡ Some (Text (Imm op (low n) (low p) (signed_of m c)))
 imm_found imm_op.Addi t n p q pm c h m = refl
 imm_found imm_op.Slti t n p q pm c h m = refl
 imm_found imm_op.Sltiu t n p q pm c h m = refl
@@ -215,7 +239,8 @@ shift_head shift_op.Slli = refl
 shift_head shift_op.Srli = refl
 shift_head shift_op.Srai = refl
 
-shift_found : (op : ShiftOp) (t n p q : ℕ) (pm : Bool) (c h : ℕ) (m : Bool) → line_of (ops (shift_key op) 0 t n p q pm c h m) ≡ Some (Text (Shift op (low n) (low p) (low c)))
+shift_found : (op : ShiftOp) (t n p q : ℕ) (pm : Bool) (c h : ℕ) (m : Bool)
+    → line_of (ops (shift_key op) 0 t n p q pm c h m) ≡ Some (Text (Shift op (low n) (low p) (low c)))
 shift_found shift_op.Slli t n p q pm c h m = refl
 shift_found shift_op.Srli t n p q pm c h m = refl
 shift_found shift_op.Srai t n p q pm c h m = refl
@@ -240,7 +265,8 @@ reg_head reg_op.Divu = refl
 reg_head reg_op.Rem = refl
 reg_head reg_op.Remu = refl
 
-reg_found : (op : RegOp) (t n p q : ℕ) (pm : Bool) (c h : ℕ) (m : Bool) → line_of (ops (reg_key op) 0 t n p q pm c h m) ≡ Some (Text (Reg op (low n) (low p) (low c)))
+reg_found : (op : RegOp) (t n p q : ℕ) (pm : Bool) (c h : ℕ) (m : Bool)
+    → line_of (ops (reg_key op) 0 t n p q pm c h m) ≡ Some (Text (Reg op (low n) (low p) (low c)))
 reg_found reg_op.Add t n p q pm c h m = refl
 reg_found reg_op.Sub t n p q pm c h m = refl
 reg_found reg_op.Sll t n p q pm c h m = refl
@@ -268,7 +294,8 @@ csr_head csr_op.Csrrwi = refl
 csr_head csr_op.Csrrsi = refl
 csr_head csr_op.Csrrci = refl
 
-csr_found : (op : CsrOp) (t n p q : ℕ) (pm : Bool) (c h : ℕ) (m : Bool) → line_of (ops (csr_key op) 0 t n p q pm c h m) ≡ Some (Text (Csr op (low n) (low c) (q % 2 ^ 16)))
+csr_found : (op : CsrOp) (t n p q : ℕ) (pm : Bool) (c h : ℕ) (m : Bool)
+    → line_of (ops (csr_key op) 0 t n p q pm c h m) ≡ Some (Text (Csr op (low n) (low c) (q % 2 ^ 16)))
 csr_found csr_op.Csrrw t n p q pm c h m = refl
 csr_found csr_op.Csrrs t n p q pm c h m = refl
 csr_found csr_op.Csrrc t n p q pm c h m = refl
@@ -287,7 +314,8 @@ amo_head amo_op.Max = refl
 amo_head amo_op.Minu = refl
 amo_head amo_op.Maxu = refl
 
-amo_found : (op : AmoOp) (order x t n p q : ℕ) (pm : Bool) (c h : ℕ) (m : Bool) → atomic_line (ops (amo_key op) x t n p q pm c h m) (Some order) ≡ Some (Text (Amo op (low t) (low c) (low n) order))
+amo_found : (op : AmoOp) (order x t n p q : ℕ) (pm : Bool) (c h : ℕ) (m : Bool)
+    → atomic_line (ops (amo_key op) x t n p q pm c h m) (Some order) ≡ Some (Text (Amo op (low t) (low c) (low n) order))
 amo_found amo_op.Swap order x t n p q pm c h m = refl
 amo_found amo_op.Add order x t n p q pm c h m = refl
 amo_found amo_op.Xor order x t n p q pm c h m = refl
@@ -330,9 +358,6 @@ wider_size n h = omega arith
 high_part : (n : ℕ) → n % 2 ^ 12 ≡ 0 → n < 2 ^ 32 → n / 2 ^ 12 % 2 ^ 20 * 2 ^ 12 ≡ n
 high_part n e h = omega arith
 
-high_bound : (n : ℕ) → n < 2 ^ 32 → n / 2 ^ 12 < 2 ^ 32
-high_bound n h = omega arith
-
 number_part : (n : ℕ) → n < 2 ^ 12 → n % 2 ^ 16 ≡ n
 number_part n h = omega arith
 
@@ -340,7 +365,7 @@ pub complete : (l : Line) → LineFits l → line_of (fold step start (line_text
 complete (Text (Upper op rd imm)) f =
     let a : low rd ≡ rd = low_small rd f.0 in
     let b : imm / 2 ^ 12 % 2 ^ 20 * 2 ^ 12 ≡ imm = high_part imm f.1 f.2 in
-    ap line_of (hexed (upper_name op) (upper_key op) rd (imm / 2 ^ 12) (upper_head op) (wide rd f.0) (high_bound imm f.2))
+    ap line_of (hexed (upper_name op) (upper_key op) rd (imm / 2 ^ 12) (upper_head op) (wide rd f.0) (let l = f.2 in omega (arith, l)))
     ∙ upper_found op 0 0 rd (aside_hex rd) false (aside_ten (digits 16 false (imm / 2 ^ 12))) (imm / 2 ^ 12) false
     ∙ (cc)
 complete (Text (Jal rd offset)) f =
@@ -360,7 +385,8 @@ complete (Text (Branch op rs1 rs2 offset)) f =
     let a : low rs1 ≡ rs1 = low_small rs1 f.0 in
     let b : low rs2 ≡ rs2 = low_small rs2 f.1 in
     let sz : signed_of (minus_of offset) (size_of offset) ≡ offset = signed_again offset (size_12 offset f.2) in
-    ap line_of (two_and_number (branch_name op) (branch_key op) rs1 rs2 offset (branch_head op) (wide rs1 f.0) (wide rs2 f.1) (wider_size (size_of offset) (size_12 offset f.2)))
+    ap line_of (two_and_number (branch_name op) (branch_key op) rs1 rs2 offset (branch_head op) (wide rs1 f.0) (wide rs2 f.1)
+    (wider_size (size_of offset) (size_12 offset f.2)))
     ∙ branch_found op 0 rs1 rs2 (aside_hex rs2) false (size_of offset) (aside_hex (size_of offset)) (minus_of offset)
     ∙ (cc)
 complete (Text (Imm op rd rs1 imm)) f =
@@ -381,7 +407,8 @@ complete (Text (Store op rs1 rs2 offset)) f =
     let a : low rs2 ≡ rs2 = low_small rs2 f.1 in
     let b : low rs1 ≡ rs1 = low_small rs1 f.0 in
     let sz : signed_of (minus_of offset) (size_of offset) ≡ offset = signed_again offset (size_11 offset f.2) in
-    ap line_of (place (store_name op) (store_key op) rs2 offset rs1 (store_head op) (wide rs2 f.1) (wider_size (size_of offset) (size_11 offset f.2)) (wide rs1 f.0))
+    ap line_of (place (store_name op) (store_key op) rs2 offset rs1 (store_head op) (wide rs2 f.1) (wider_size (size_of offset) (size_11 offset f.2))
+    (wide rs1 f.0))
     ∙ store_found op 0 rs2 (size_of offset) (aside_hex (size_of offset)) (minus_of offset) rs1 (aside_hex rs1) false
     ∙ (cc)
 complete (Text (Shift op rd rs1 amount)) f =
@@ -402,7 +429,8 @@ complete (Text (Csr op rd rs1 number)) f =
     let a : low rd ≡ rd = low_small rd f.0 in
     let b : low rs1 ≡ rs1 = low_small rs1 f.1 in
     let d : number % 2 ^ 16 ≡ number = number_part number f.2 in
-    ap line_of (csr_number (csr_name op) (csr_before op) (csr_key op) rd number rs1 (csr_head op) (wide rd f.0) f.2 (wide rs1 f.1) (before_step op (csr_key op)))
+    ap line_of (csr_number (csr_name op) (csr_before op) (csr_key op) rd number rs1 (csr_head op) (wide rd f.0) f.2 (wide rs1 f.1)
+    (before_step op (csr_key op)))
     ∙ csr_found op 0 rd (aside_ten (hex_3 number)) number false rs1 (aside_hex rs1) false
     ∙ (cc)
 complete (Text (LoadReserved rd rs1 order)) f =

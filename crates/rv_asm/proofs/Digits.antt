@@ -11,7 +11,8 @@ three_digits n h =
     let c : digits 16 false (n % 16) ≡ hex (n % 16) ∷ [] = hex_one_digit false (n % 16) (omega arith) in
     rw (a, b, c)
 
-pub four_digits : (n : ℕ) → n < 2 ^ 16 → digits 16 false (n / 2 ^ 12) ++ (digits 16 false (n / 2 ^ 8 % 16) ++ (digits 16 false (n / 2 ^ 4 % 16) ++ digits 16 false (n % 16))) ≡ hex_4 n
+pub four_digits : (n : ℕ) → n < 2 ^ 16 → digits 16 false (n / 2 ^ 12) ++
+    (digits 16 false (n / 2 ^ 8 % 16) ++ (digits 16 false (n / 2 ^ 4 % 16) ++ digits 16 false (n % 16))) ≡ hex_4 n
 four_digits n h =
     let a : digits 16 false (n / 2 ^ 12) ≡ hex (n / 2 ^ 12) ∷ [] = hex_one_digit false (n / 2 ^ 12) (omega arith) in
     let b : digits 16 false (n / 2 ^ 8 % 16) ≡ hex (n / 2 ^ 8 % 16) ∷ [] = hex_one_digit false (n / 2 ^ 8 % 16) (omega arith) in

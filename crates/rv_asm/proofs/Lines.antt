@@ -1,5 +1,6 @@
 -- A line stands for one word, has no newline in it, and a text is cut into lines in one way.
-use Rattle.std.proofs.Common.{◌≡◌, ℕ, ◌+◌, ◌-◌, ◌<◌, ◌^◌, Bool, true, false, List, [], ◌∷◌, ◌++◌, refl, ap, sym, ◌∙◌, arith, subst, cond, zero, suc, length, take, drop, get_or, inl, inr, ◌⊎◌, drop-cons, length-append}
+use Rattle.std.proofs.Common.{◌≡◌, ℕ, ◌+◌, ◌-◌, ◌<◌, ◌^◌, Bool, true, false, List, [], ◌∷◌, ◌++◌, refl, ap, sym, ◌∙◌, arith, subst, cond, zero, suc, length}
+use Rattle.std.proofs.Common.{take, drop, get_or, inl, inr, ◌⊎◌, drop-cons, length-append}
 use Rattle.std.specs.Prelude.{◌==◌, fold, position, Some, None, Ok, Err, Result, MatchResult}
 use Rattle.std.specs.List.{position_from}
 use Rattle.std.proofs.lemmas.Bool.{eqb-true}
@@ -111,13 +112,15 @@ front_line (b ∷ bs) (suc n) l h = (h 0 (omega arith), front_line bs n (omega a
 
 pub cut_at : (bytes : List ℕ) (n : ℕ) → position (λ b. b == 10) bytes ≡ Some n → (n < length bytes) × IsCut bytes (take n bytes) (drop (suc n) bytes)
 cut_at bytes n e =
-    let p : (n < length bytes) × ((get_or bytes n 0 == 10) ≡ true) × ((k : ℕ) → k < n → (get_or bytes k 0 == 10) ≡ false) = position-Some (λ b. b == 10) bytes n 0 e in
+    let p : (n < length bytes) × ((get_or bytes n 0 == 10) ≡ true) × ((k : ℕ) → k < n → (get_or bytes k 0 == 10) ≡ false) =
+    position-Some (λ b. b == 10) bytes n 0 e in
     let q : n < length bytes = p.0 in
     let g : get_or bytes n 0 ≡ 10 = eqb-true (get_or bytes n 0) 10 p.1 in
     let d : drop n bytes ≡ 10 ∷ drop (suc n) bytes = drop-cons bytes n 0 q ∙ ap (λ v. v ∷ drop (suc n) bytes) g in
     (q, (front_line bytes n q p.2, sym (take-append-drop n bytes) ∙ ap (λ v. take n bytes ++ v) d))
 
-not_cut_at : (q : Bool) (b : ℕ) (bs : List ℕ) (i : ℕ) → (b == 10) ≡ q → cond q (Some i) (position_from (λ b. b == 10) (i + 1) bs) ≡ None → ((b == 10) ≡ false) × (position_from (λ b. b == 10) (i + 1) bs ≡ None)
+not_cut_at : (q : Bool) (b : ℕ) (bs : List ℕ) (i : ℕ) → (b == 10) ≡ q → cond q (Some i) (position_from (λ b. b == 10) (i + 1) bs) ≡ None → ((b == 10) ≡ false)
+    × (position_from (λ b. b == 10) (i + 1) bs ≡ None)
 not_cut_at true b bs i f e = let bad : ⊥ = cc in absurd bad
 not_cut_at false b bs i f e = (f, e)
 
@@ -165,7 +168,8 @@ drop_one zero (b ∷ bs) = refl
 drop_one (suc n) [] = refl
 drop_one (suc n) (b ∷ bs) = drop_one n bs
 
-pub cut_back : (bytes line back : List ℕ) (n : ℕ) → position (λ b. b == 10) bytes ≡ Some n → line ≡ take n bytes → back ≡ drop n bytes → IsCut bytes line (take (length back - 1) (drop 1 back))
+pub cut_back : (bytes line back : List ℕ) (n : ℕ) → position (λ b. b == 10) bytes ≡ Some n → line ≡ take n bytes → back ≡ drop n bytes
+    → IsCut bytes line (take (length back - 1) (drop 1 back))
 cut_back bytes line back n e f g =
     let c : IsCut bytes (take n bytes) (drop (suc n) bytes) = (cut_at bytes n e).1 in
     let k : take (length back - 1) (drop 1 back) ≡ drop (suc n) bytes = rest_of back ∙ ap (drop 1) g ∙ drop_one n bytes in
@@ -173,14 +177,16 @@ cut_back bytes line back n e f g =
 
 -- what follows for the caller
 
-pub only_these : {X : Type 0} (items : X → List ℕ) (r : Result X AsmError) (bytes ws : List ℕ) → MatchResult r (λ v. Spells (items v) [] bytes) (λ e. FailsWith e bytes) → Spells ws [] bytes → MatchResult r (λ v. items v ≡ ws) (λ e. e ≡ NoMemory)
+pub only_these : {X : Type 0} (items : X → List ℕ) (r : Result X AsmError) (bytes ws : List ℕ)
+    → MatchResult r (λ v. Spells (items v) [] bytes) (λ e. FailsWith e bytes) → Spells ws [] bytes → MatchResult r (λ v. items v ≡ ws) (λ e. e ≡ NoMemory)
 only_these items (Ok v) bytes ws h s = (one_cut (items v) ws [] [] bytes h stops_nil s stops_nil).0
 only_these items (Err (BadLine n)) bytes ws h s =
     let e : (ws ≡ h.0) × ([] ≡ h.1) = one_cut ws h.0 [] h.1 bytes s stops_nil h.4 h.5 in
     absurd (omega (arith, ap length e.1, h.3))
 only_these items (Err NoMemory) bytes ws h s = refl
 
-pub first_bad : {X : Type 0} (items : X → List ℕ) (r : Result X AsmError) (bytes : List ℕ) (n : ℕ) → MatchResult r (λ v. Spells (items v) [] bytes) (λ e. FailsWith e bytes) → FailsAt n bytes → MatchResult r (λ v. ⊥) (λ e. (e ≡ BadLine n) ⊎ (e ≡ NoMemory))
+pub first_bad : {X : Type 0} (items : X → List ℕ) (r : Result X AsmError) (bytes : List ℕ) (n : ℕ)
+    → MatchResult r (λ v. Spells (items v) [] bytes) (λ e. FailsWith e bytes) → FailsAt n bytes → MatchResult r (λ v. ⊥) (λ e. (e ≡ BadLine n) ⊎ (e ≡ NoMemory))
 first_bad items (Ok v) bytes n h f =
     let e : (items v ≡ f.0) × ([] ≡ f.1) = one_cut (items v) f.0 [] f.1 bytes h stops_nil f.4 f.5 in
     absurd (omega (arith, ap length e.1, f.3))

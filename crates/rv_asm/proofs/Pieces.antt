@@ -14,7 +14,20 @@ use Rattle.rv_asm.specs.declared.scan.Scan.{Scan}
 use Rattle.rv_asm.specs.Scan.{step, ten, sixteen, signed_of}
 
 abbrev pub ops : ℕ → ℕ → ℕ → ℕ → ℕ → ℕ → Bool → ℕ → ℕ → Bool → Scan
-ops k x t n p q pm c h m = record { phase = Operands; key = k; suffix = x; third = t; second = n; previous = p; previous_hex = q; previous_minus = pm; current = c; current_hex = h; current_minus = m }
+ops k x t n p q pm c h m =
+    record {
+      phase = Operands;
+      key = k;
+      suffix = x;
+      third = t;
+      second = n;
+      previous = p;
+      previous_hex = q;
+      previous_minus = pm;
+      current = c;
+      current_hex = h;
+      current_minus = m;
+    }
 
 pub not_newline : (b : ℕ) → digit_value b < 16 → (b == 10) ≡ false
 not_newline b d = grind (arith, nat_tests)
@@ -22,17 +35,20 @@ not_newline b d = grind (arith, nat_tests)
 is_digit : (b : ℕ) → digit_value b < 16 → nat_lt (digit_value b) 16 ≡ true
 is_digit b d = grind (arith, nat_tests)
 
-one : (b : ℕ) (k x t n p q : ℕ) (pm : Bool) (c h : ℕ) (m : Bool) → digit_value b < 16 → step (ops k x t n p q pm c h m) b ≡ ops k x t n p q pm (ten c b) (sixteen h b) m
+one : (b : ℕ) (k x t n p q : ℕ) (pm : Bool) (c h : ℕ) (m : Bool) → digit_value b < 16
+    → step (ops k x t n p q pm c h m) b ≡ ops k x t n p q pm (ten c b) (sixteen h b) m
 one b k x t n p q pm c h m d =
     let f : nat_lt (digit_value b) 16 ≡ true = is_digit b d in
     rw f
 
 -- digits move nothing but the number that is being read
-pub run : (ds : List ℕ) (k x t n p q : ℕ) (pm : Bool) (c h : ℕ) (m : Bool) → AllDigits 16 ds → fold step (ops k x t n p q pm c h m) ds ≡ ops k x t n p q pm (fold ten c ds) (fold sixteen h ds) m
+pub run : (ds : List ℕ) (k x t n p q : ℕ) (pm : Bool) (c h : ℕ) (m : Bool) → AllDigits 16 ds
+    → fold step (ops k x t n p q pm c h m) ds ≡ ops k x t n p q pm (fold ten c ds) (fold sixteen h ds) m
 run [] k x t n p q pm c h m d = refl
 run (b ∷ ds) k x t n p q pm c h m d = ap (λ s. fold step s ds) (one b k x t n p q pm c h m d.0) ∙ run ds k x t n p q pm (ten c b) (sixteen h b) m d.1
 
-pub run_on : (ds rest : List ℕ) (k x t n p q : ℕ) (pm : Bool) (c h : ℕ) (m : Bool) → AllDigits 16 ds → fold step (ops k x t n p q pm c h m) (ds ++ rest) ≡ fold step (ops k x t n p q pm (fold ten c ds) (fold sixteen h ds) m) rest
+pub run_on : (ds rest : List ℕ) (k x t n p q : ℕ) (pm : Bool) (c h : ℕ) (m : Bool) → AllDigits 16 ds
+    → fold step (ops k x t n p q pm c h m) (ds ++ rest) ≡ fold step (ops k x t n p q pm (fold ten c ds) (fold sixteen h ds) m) rest
 run_on ds rest k x t n p q pm c h m d = fold-append step (ops k x t n p q pm c h m) ds rest ∙ ap (λ s. fold step s rest) (run ds k x t n p q pm c h m d)
 
 ten_step : (c d : ℕ) → (c % 2 ^ 32 * 10 + d) % 2 ^ 32 ≡ (c * 10 + d) % 2 ^ 32
@@ -82,17 +98,23 @@ aside_hex n = fold sixteen 0 (decimal n)
 pub aside_ten : List ℕ → ℕ
 aside_ten ds = fold ten 0 ds
 
-pub eat : (a : ℕ) (rest : List ℕ) (k x t n p q : ℕ) (pm m : Bool) → a < 2 ^ 32 → fold step (ops k x t n p q pm 0 0 m) (decimal a ++ rest) ≡ fold step (ops k x t n p q pm a (aside_hex a) m) rest
+pub eat : (a : ℕ) (rest : List ℕ) (k x t n p q : ℕ) (pm m : Bool) → a < 2 ^ 32
+    → fold step (ops k x t n p q pm 0 0 m) (decimal a ++ rest) ≡ fold step (ops k x t n p q pm a (aside_hex a) m) rest
 unfolding aside_hex
-eat a rest k x t n p q pm m h = run_on (decimal a) rest k x t n p q pm 0 0 m (decimal_digits a h) ∙ ap (λ v. fold step (ops k x t n p q pm v (fold sixteen 0 (decimal a)) m) rest) (ten_decimal a h)
+eat a rest k x t n p q pm m h =
+    run_on (decimal a) rest k x t n p q pm 0 0 m (decimal_digits a h)
+    ∙ ap (λ v. fold step (ops k x t n p q pm v (fold sixteen 0 (decimal a)) m) rest) (ten_decimal a h)
 
 pub eat_last : (a : ℕ) (k x t n p q : ℕ) (pm m : Bool) → a < 2 ^ 32 → fold step (ops k x t n p q pm 0 0 m) (decimal a) ≡ ops k x t n p q pm a (aside_hex a) m
 unfolding aside_hex
-eat_last a k x t n p q pm m h = run (decimal a) k x t n p q pm 0 0 m (decimal_digits a h) ∙ ap (λ v. ops k x t n p q pm v (fold sixteen 0 (decimal a)) m) (ten_decimal a h)
+eat_last a k x t n p q pm m h =
+    run (decimal a) k x t n p q pm 0 0 m (decimal_digits a h) ∙ ap (λ v. ops k x t n p q pm v (fold sixteen 0 (decimal a)) m) (ten_decimal a h)
 
-pub eat_hex : (a : ℕ) (k x t n p q : ℕ) (pm m : Bool) → a < 2 ^ 32 → fold step (ops k x t n p q pm 0 0 m) (digits 16 false a) ≡ ops k x t n p q pm (aside_ten (digits 16 false a)) a m
+pub eat_hex : (a : ℕ) (k x t n p q : ℕ) (pm m : Bool) → a < 2 ^ 32
+    → fold step (ops k x t n p q pm 0 0 m) (digits 16 false a) ≡ ops k x t n p q pm (aside_ten (digits 16 false a)) a m
 unfolding aside_ten
-eat_hex a k x t n p q pm m h = run (digits 16 false a) k x t n p q pm 0 0 m (hex_digits a h) ∙ ap (λ v. ops k x t n p q pm (fold ten 0 (digits 16 false a)) v m) (sixteen_digits a h)
+eat_hex a k x t n p q pm m h =
+    run (digits 16 false a) k x t n p q pm 0 0 m (hex_digits a h) ∙ ap (λ v. ops k x t n p q pm (fold ten 0 (digits 16 false a)) v m) (sixteen_digits a h)
 
 abbrev pub size_of : ℤ → ℕ
 size_of (pos a) = a
@@ -102,11 +124,13 @@ abbrev pub minus_of : ℤ → Bool
 minus_of (pos a) = false
 minus_of (negsuc a) = true
 
-pub eat_signed : (z : ℤ) (rest : List ℕ) (k x t n p q : ℕ) (pm : Bool) → size_of z < 2 ^ 32 → fold step (ops k x t n p q pm 0 0 false) (signed_decimal z ++ rest) ≡ fold step (ops k x t n p q pm (size_of z) (aside_hex (size_of z)) (minus_of z)) rest
+pub eat_signed : (z : ℤ) (rest : List ℕ) (k x t n p q : ℕ) (pm : Bool) → size_of z < 2 ^ 32
+    → fold step (ops k x t n p q pm 0 0 false) (signed_decimal z ++ rest) ≡ fold step (ops k x t n p q pm (size_of z) (aside_hex (size_of z)) (minus_of z)) rest
 eat_signed (pos a) rest k x t n p q pm h = eat a rest k x t n p q pm false h
 eat_signed (negsuc a) rest k x t n p q pm h = eat (suc a) rest k x t n p q pm true h
 
-pub eat_signed_last : (z : ℤ) (k x t n p q : ℕ) (pm : Bool) → size_of z < 2 ^ 32 → fold step (ops k x t n p q pm 0 0 false) (signed_decimal z) ≡ ops k x t n p q pm (size_of z) (aside_hex (size_of z)) (minus_of z)
+pub eat_signed_last : (z : ℤ) (k x t n p q : ℕ) (pm : Bool) → size_of z < 2 ^ 32
+    → fold step (ops k x t n p q pm 0 0 false) (signed_decimal z) ≡ ops k x t n p q pm (size_of z) (aside_hex (size_of z)) (minus_of z)
 eat_signed_last (pos a) k x t n p q pm h = eat_last a k x t n p q pm false h
 eat_signed_last (negsuc a) k x t n p q pm h = eat_last (suc a) k x t n p q pm true h
 
@@ -130,21 +154,59 @@ is_hex : (d : ℕ) → d < 16 → digit_value (hex d) < 16
 is_hex d h = omega (arith, hex_value d h)
 
 hex_3_value : (n : ℕ) → n < 2 ^ 12 → fold sixteen 0 (hex_3 n) ≡ n
-hex_3_value n b = next (0) (n / 2 ^ 8) (n / 2 ^ 8) (hex (n / 2 ^ 4 % 16) ∷ hex (n % 16) ∷ []) (omega arith) (omega arith) (omega arith) ∙ next (n / 2 ^ 8) (n / 2 ^ 4 % 16) (n / 2 ^ 4) (hex (n % 16) ∷ []) (omega arith) (omega arith) (omega arith) ∙ next (n / 2 ^ 4) (n % 16) (n) ([]) (omega arith) (omega arith) (omega arith)
+hex_3_value n b =
+    next (0) (n / 2 ^ 8) (n / 2 ^ 8) (hex (n / 2 ^ 4 % 16) ∷ hex (n % 16) ∷ []) (omega arith) (omega arith) (omega arith)
+    ∙ next (n / 2 ^ 8) (n / 2 ^ 4 % 16) (n / 2 ^ 4) (hex (n % 16) ∷ []) (omega arith) (omega arith) (omega arith)
+    ∙ next (n / 2 ^ 4) (n % 16) (n) ([]) (omega arith) (omega arith) (omega arith)
 
 pub hex_3_digits : (n : ℕ) → n < 2 ^ 12 → AllDigits 16 (hex_3 n)
 hex_3_digits n b = (is_hex (n / 2 ^ 8) (omega arith), (is_hex (n / 2 ^ 4 % 16) (omega arith), (is_hex (n % 16) (omega arith), tt)))
 
 hex_8_value : (n : ℕ) → n < 2 ^ 32 → fold sixteen 0 (hex_8 n) ≡ n
-hex_8_value n b = next (0) (n / 2 ^ 16 / 2 ^ 12) (n / 2 ^ 28) (hex (n / 2 ^ 16 / 2 ^ 8 % 16) ∷ hex (n / 2 ^ 16 / 2 ^ 4 % 16) ∷ hex (n / 2 ^ 16 % 16) ∷ hex (n % 2 ^ 16 / 2 ^ 12) ∷ hex (n % 2 ^ 16 / 2 ^ 8 % 16) ∷ hex (n % 2 ^ 16 / 2 ^ 4 % 16) ∷ hex (n % 2 ^ 16 % 16) ∷ []) (omega arith) (omega arith) (omega arith) ∙ next (n / 2 ^ 28) (n / 2 ^ 16 / 2 ^ 8 % 16) (n / 2 ^ 24) (hex (n / 2 ^ 16 / 2 ^ 4 % 16) ∷ hex (n / 2 ^ 16 % 16) ∷ hex (n % 2 ^ 16 / 2 ^ 12) ∷ hex (n % 2 ^ 16 / 2 ^ 8 % 16) ∷ hex (n % 2 ^ 16 / 2 ^ 4 % 16) ∷ hex (n % 2 ^ 16 % 16) ∷ []) (omega arith) (omega arith) (omega arith) ∙ next (n / 2 ^ 24) (n / 2 ^ 16 / 2 ^ 4 % 16) (n / 2 ^ 20) (hex (n / 2 ^ 16 % 16) ∷ hex (n % 2 ^ 16 / 2 ^ 12) ∷ hex (n % 2 ^ 16 / 2 ^ 8 % 16) ∷ hex (n % 2 ^ 16 / 2 ^ 4 % 16) ∷ hex (n % 2 ^ 16 % 16) ∷ []) (omega arith) (omega arith) (omega arith) ∙ next (n / 2 ^ 20) (n / 2 ^ 16 % 16) (n / 2 ^ 16) (hex (n % 2 ^ 16 / 2 ^ 12) ∷ hex (n % 2 ^ 16 / 2 ^ 8 % 16) ∷ hex (n % 2 ^ 16 / 2 ^ 4 % 16) ∷ hex (n % 2 ^ 16 % 16) ∷ []) (omega arith) (omega arith) (omega arith) ∙ next (n / 2 ^ 16) (n % 2 ^ 16 / 2 ^ 12) (n / 2 ^ 12) (hex (n % 2 ^ 16 / 2 ^ 8 % 16) ∷ hex (n % 2 ^ 16 / 2 ^ 4 % 16) ∷ hex (n % 2 ^ 16 % 16) ∷ []) (omega arith) (omega arith) (omega arith) ∙ next (n / 2 ^ 12) (n % 2 ^ 16 / 2 ^ 8 % 16) (n / 2 ^ 8) (hex (n % 2 ^ 16 / 2 ^ 4 % 16) ∷ hex (n % 2 ^ 16 % 16) ∷ []) (omega arith) (omega arith) (omega arith) ∙ next (n / 2 ^ 8) (n % 2 ^ 16 / 2 ^ 4 % 16) (n / 2 ^ 4) (hex (n % 2 ^ 16 % 16) ∷ []) (omega arith) (omega arith) (omega arith) ∙ next (n / 2 ^ 4) (n % 2 ^ 16 % 16) (n) ([]) (omega arith) (omega arith) (omega arith)
+hex_8_value n b =
+    next (0) (n / 2 ^ 16 / 2 ^ 12) (n / 2 ^ 28)
+    (hex (n / 2 ^ 16 / 2 ^ 8 % 16) ∷ hex (n / 2 ^ 16 / 2 ^ 4 % 16) ∷ hex (n / 2 ^ 16 % 16) ∷ hex (n % 2 ^ 16 / 2 ^ 12) ∷ hex (n % 2 ^ 16 / 2 ^ 8 % 16) ∷ hex
+    (n % 2 ^ 16 / 2 ^ 4 % 16) ∷ hex (n % 2 ^ 16 % 16) ∷ []) (omega arith) (omega arith) (omega arith)
+    ∙ next (n / 2 ^ 28) (n / 2 ^ 16 / 2 ^ 8 % 16) (n / 2 ^ 24)
+    (hex (n / 2 ^ 16 / 2 ^ 4 % 16) ∷ hex (n / 2 ^ 16 % 16) ∷ hex (n % 2 ^ 16 / 2 ^ 12) ∷ hex (n % 2 ^ 16 / 2 ^ 8 % 16) ∷ hex (n % 2 ^ 16 / 2 ^ 4 % 16) ∷ hex
+    (n % 2 ^ 16 % 16) ∷ []) (omega arith) (omega arith) (omega arith)
+    ∙ next (n / 2 ^ 24) (n / 2 ^ 16 / 2 ^ 4 % 16) (n / 2 ^ 20)
+    (hex (n / 2 ^ 16 % 16) ∷ hex (n % 2 ^ 16 / 2 ^ 12) ∷ hex (n % 2 ^ 16 / 2 ^ 8 % 16) ∷ hex (n % 2 ^ 16 / 2 ^ 4 % 16) ∷ hex (n % 2 ^ 16 % 16) ∷ [])
+    (omega arith) (omega arith) (omega arith)
+    ∙ next (n / 2 ^ 20) (n / 2 ^ 16 % 16) (n / 2 ^ 16)
+    (hex (n % 2 ^ 16 / 2 ^ 12) ∷ hex (n % 2 ^ 16 / 2 ^ 8 % 16) ∷ hex (n % 2 ^ 16 / 2 ^ 4 % 16) ∷ hex (n % 2 ^ 16 % 16) ∷ []) (omega arith) (omega arith)
+    (omega arith) ∙ next (n / 2 ^ 16) (n % 2 ^ 16 / 2 ^ 12) (n / 2 ^ 12)
+    (hex (n % 2 ^ 16 / 2 ^ 8 % 16) ∷ hex (n % 2 ^ 16 / 2 ^ 4 % 16) ∷ hex (n % 2 ^ 16 % 16) ∷ []) (omega arith) (omega arith) (omega arith)
+    ∙ next (n / 2 ^ 12) (n % 2 ^ 16 / 2 ^ 8 % 16) (n / 2 ^ 8) (hex (n % 2 ^ 16 / 2 ^ 4 % 16) ∷ hex (n % 2 ^ 16 % 16) ∷ []) (omega arith) (omega arith)
+    (omega arith) ∙ next (n / 2 ^ 8) (n % 2 ^ 16 / 2 ^ 4 % 16) (n / 2 ^ 4) (hex (n % 2 ^ 16 % 16) ∷ []) (omega arith) (omega arith) (omega arith)
+    ∙ next (n / 2 ^ 4) (n % 2 ^ 16 % 16) (n) ([]) (omega arith) (omega arith) (omega arith)
 
 pub hex_8_digits : (n : ℕ) → n < 2 ^ 32 → AllDigits 16 (hex_8 n)
-hex_8_digits n b = (is_hex (n / 2 ^ 16 / 2 ^ 12) (omega arith), (is_hex (n / 2 ^ 16 / 2 ^ 8 % 16) (omega arith), (is_hex (n / 2 ^ 16 / 2 ^ 4 % 16) (omega arith), (is_hex (n / 2 ^ 16 % 16) (omega arith), (is_hex (n % 2 ^ 16 / 2 ^ 12) (omega arith), (is_hex (n % 2 ^ 16 / 2 ^ 8 % 16) (omega arith), (is_hex (n % 2 ^ 16 / 2 ^ 4 % 16) (omega arith), (is_hex (n % 2 ^ 16 % 16) (omega arith), tt))))))))
+hex_8_digits n b = (
+  is_hex (n / 2 ^ 16 / 2 ^ 12) (omega arith),
+  (
+    is_hex (n / 2 ^ 16 / 2 ^ 8 % 16) (omega arith),
+    (
+      is_hex (n / 2 ^ 16 / 2 ^ 4 % 16) (omega arith),
+      (
+        is_hex (n / 2 ^ 16 % 16) (omega arith),
+        (
+          is_hex (n % 2 ^ 16 / 2 ^ 12) (omega arith),
+          (is_hex (n % 2 ^ 16 / 2 ^ 8 % 16) (omega arith), (is_hex (n % 2 ^ 16 / 2 ^ 4 % 16) (omega arith), (is_hex (n % 2 ^ 16 % 16) (omega arith), tt))),
+        ),
+      ),
+    ),
+  ),
+)
 
-pub eat_hex_3 : (a : ℕ) (rest : List ℕ) (k x t n p q : ℕ) (pm m : Bool) → a < 2 ^ 12 → fold step (ops k x t n p q pm 0 0 m) (hex_3 a ++ rest) ≡ fold step (ops k x t n p q pm (aside_ten (hex_3 a)) a m) rest
+pub eat_hex_3 : (a : ℕ) (rest : List ℕ) (k x t n p q : ℕ) (pm m : Bool) → a < 2 ^ 12
+    → fold step (ops k x t n p q pm 0 0 m) (hex_3 a ++ rest) ≡ fold step (ops k x t n p q pm (aside_ten (hex_3 a)) a m) rest
 unfolding aside_ten
-eat_hex_3 a rest k x t n p q pm m h = run_on (hex_3 a) rest k x t n p q pm 0 0 m (hex_3_digits a h) ∙ ap (λ v. fold step (ops k x t n p q pm (fold ten 0 (hex_3 a)) v m) rest) (hex_3_value a h)
+eat_hex_3 a rest k x t n p q pm m h =
+    run_on (hex_3 a) rest k x t n p q pm 0 0 m (hex_3_digits a h) ∙ ap (λ v. fold step (ops k x t n p q pm (fold ten 0 (hex_3 a)) v m) rest) (hex_3_value a h)
 
-pub eat_hex_8 : (a : ℕ) (k x t n p q : ℕ) (pm m : Bool) → a < 2 ^ 32 → fold step (ops k x t n p q pm 0 0 m) (hex_8 a) ≡ ops k x t n p q pm (aside_ten (hex_8 a)) a m
+pub eat_hex_8 : (a : ℕ) (k x t n p q : ℕ) (pm m : Bool) → a < 2 ^ 32
+    → fold step (ops k x t n p q pm 0 0 m) (hex_8 a) ≡ ops k x t n p q pm (aside_ten (hex_8 a)) a m
 unfolding aside_ten
-eat_hex_8 a k x t n p q pm m h = run (hex_8 a) k x t n p q pm 0 0 m (hex_8_digits a h) ∙ ap (λ v. ops k x t n p q pm (fold ten 0 (hex_8 a)) v m) (hex_8_value a h)
+eat_hex_8 a k x t n p q pm m h =
+    run (hex_8 a) k x t n p q pm 0 0 m (hex_8_digits a h) ∙ ap (λ v. ops k x t n p q pm (fold ten 0 (hex_8 a)) v m) (hex_8_value a h)

@@ -1,9 +1,11 @@
 -- One pass over a line keeps its name and its numbers, and they name the one line of the grammar that it can be.
 -- Private functions alone promise this; the grammar knows nothing of it.
-use Rattle.std.specs.Prelude.{◌≡◌, ◌<◌, List, codes, ℕ, ℤ, pos, ◌+◌, ◌*◌, ◌%◌, ◌^◌, ◌==◌, ◌||◌, ◌-ℤ◌, nat_lt, if◌then◌else◌, Bool, true, false, Option, Some, None}
+use Rattle.std.specs.Prelude.{◌≡◌, ◌<◌, List, codes, ℕ, ℤ, pos, ◌+◌, ◌*◌, ◌%◌, ◌^◌, ◌==◌, ◌||◌, ◌-ℤ◌, nat_lt, if◌then◌else◌, Bool, true, false, Option, Some}
+use Rattle.std.specs.Prelude.{None}
 use Rattle.std.specs.Option.{option_map, option_or}
 use Rattle.std.specs.Char.{digit_value}
-use Rattle.rv_decode.specs.declared.Instr.TheVariants.{Upper, Jal, Jalr, Branch, Load, Store, Imm, Shift, Reg, Fence, FenceI, Ecall, Ebreak, Mret, Wfi, Csr, LoadReserved, StoreConditional, Amo}
+use Rattle.rv_decode.specs.declared.Instr.TheVariants.{Upper, Jal, Jalr, Branch, Load, Store, Imm, Shift, Reg, Fence, FenceI, Ecall, Ebreak, Mret, Wfi, Csr}
+use Rattle.rv_decode.specs.declared.Instr.TheVariants.{LoadReserved, StoreConditional, Amo}
 use Rattle.rv_asm.specs.Keys.{upper_named, branch_named, load_named, store_named, imm_named, shift_named, reg_named, csr_named, amo_named, order_named}
 use Rattle.rv_decode.specs.Fits.{Fits}
 use Rattle.rv_decode.specs.Table.{meaning}
@@ -15,7 +17,20 @@ use Rattle.rv_asm.specs.declared.scan.Phase.TheVariants.{Name, Suffix, Operands}
 use Rattle.rv_asm.specs.declared.scan.Scan.{Scan}
 
 abbrev pub start : Scan
-start = record { phase = Name; key = 0; suffix = 0; third = 0; second = 0; previous = 0; previous_hex = 0; previous_minus = false; current = 0; current_hex = 0; current_minus = false }
+start =
+    record {
+      phase = Name;
+      key = 0;
+      suffix = 0;
+      third = 0;
+      second = 0;
+      previous = 0;
+      previous_hex = 0;
+      previous_minus = false;
+      current = 0;
+      current_hex = 0;
+      current_minus = false;
+    }
 
 abbrev pub named : Scan → ℕ → Scan
 named s b =
@@ -30,7 +45,17 @@ suffixed s b =
 
 -- the number that is complete makes room for the next
 abbrev pub pushed : Scan → Scan
-pushed s = record s { third = s.second; second = s.previous; previous = s.current; previous_hex = s.current_hex; previous_minus = s.current_minus; current = 0; current_hex = 0; current_minus = false }
+pushed s =
+    record s {
+      third = s.second;
+      second = s.previous;
+      previous = s.current;
+      previous_hex = s.current_hex;
+      previous_minus = s.current_minus;
+      current = 0;
+      current_hex = 0;
+      current_minus = false;
+    }
 
 abbrev pub ten : ℕ → ℕ → ℕ
 ten n b = (n * 10 + digit_value b) % 2 ^ 32
@@ -104,7 +129,9 @@ bare_line key =
 
 abbrev pub plain_line : Scan → Option Line
 plain_line s =
-    option_or (option_or (option_or (option_or (option_or (option_or (option_or (option_or (upper_line s) (branch_line s)) (load_line s)) (store_line s)) (imm_line s)) (shift_line s)) (reg_line s)) (csr_line s)) (jump_line s)
+    option_or (option_or (option_or (option_or
+    (option_or (option_or (option_or (option_or (upper_line s) (branch_line s)) (load_line s)) (store_line s)) (imm_line s)) (shift_line s)) (reg_line s))
+    (csr_line s)) (jump_line s)
 
 abbrev pub amo_line : Scan → ℕ → Option Line
 amo_line s order = option_map (λ op. Text (Amo op (low s.third) (low s.current) (low s.second) order)) (amo_named s.key)

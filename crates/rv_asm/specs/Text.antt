@@ -3,7 +3,8 @@
 use Rattle.std.specs.Prelude.{ℕ, ℤ, pos, ◌/◌, ◌%◌, ◌^◌, List, [], ◌∷◌, ◌++◌, codes, false}
 use Rattle.std.specs.Fmt.{decimal, signed_decimal, digits, digit_glyph}
 use Rattle.rv_decode.specs.declared.Instr.{Instr}
-use Rattle.rv_decode.specs.declared.Instr.TheVariants.{Upper, Jal, Jalr, Branch, Load, Store, Imm, Shift, Reg, Fence, FenceI, Ecall, Ebreak, Mret, Wfi, Csr, LoadReserved, StoreConditional, Amo}
+use Rattle.rv_decode.specs.declared.Instr.TheVariants.{Upper, Jal, Jalr, Branch, Load, Store, Imm, Shift, Reg, Fence, FenceI, Ecall, Ebreak, Mret, Wfi, Csr}
+use Rattle.rv_decode.specs.declared.Instr.TheVariants.{LoadReserved, StoreConditional, Amo}
 use Rattle.rv_decode.specs.declared.CsrOp.{CsrOp}
 use Rattle.rv_decode.specs.declared.CsrOp.TheVariants as csr_op
 use Rattle.rv_asm.specs.Names.{upper_name, branch_name, load_name, store_name, imm_name, shift_name, reg_name, csr_name, amo_name, order_suffix}
@@ -50,7 +51,8 @@ with_address name order a b = name ++ (order_suffix order ++ (codes " x" ++ (dec
 
 -- `name.order xA, xB, (xC)`
 abbrev pub with_two_and_address : List ℕ → ℕ → ℕ → ℕ → ℕ → List ℕ
-with_two_and_address name order a b c = name ++ (order_suffix order ++ (codes " x" ++ (decimal a ++ (codes ", x" ++ (decimal b ++ (codes ", (x" ++ (decimal c ++ codes ")")))))))
+with_two_and_address name order a b c =
+    name ++ (order_suffix order ++ (codes " x" ++ (decimal a ++ (codes ", x" ++ (decimal b ++ (codes ", (x" ++ (decimal c ++ codes ")")))))))
 
 -- `name 0xNNNNNNNN`
 abbrev pub with_word : List ℕ → ℕ → List ℕ

@@ -115,6 +115,7 @@ fn with_two_and_address(
     format!(in alloc; "{name}{suffix} x{a}, x{b}, (x{c})")
 }
 
+#[rattlefmt::skip]
 pub fn text_of(alloc: Global, i: Instr) -> Result<String, AllocError>
     requires { Fits i }
     ensures { IfOk result (λ s. string_bytes s ≡ text i) }
@@ -123,31 +124,11 @@ pub fn text_of(alloc: Global, i: Instr) -> Result<String, AllocError>
         Instr::Upper { op, rd, imm } => with_hex(alloc, upper_name(op), rd, imm >> 12),
         Instr::Jal { rd, offset } => with_number(alloc, "jal", rd, offset),
         Instr::Jalr { rd, rs1, offset } => with_place(alloc, "jalr", rd, offset, rs1),
-        Instr::Branch {
-            op,
-            rs1,
-            rs2,
-            offset,
-        } => with_two_and_number(alloc, branch_name(op), rs1, rs2, offset),
-        Instr::Load {
-            op,
-            rd,
-            rs1,
-            offset,
-        } => with_place(alloc, load_name(op), rd, offset, rs1),
-        Instr::Store {
-            op,
-            rs1,
-            rs2,
-            offset,
-        } => with_place(alloc, store_name(op), rs2, offset, rs1),
+        Instr::Branch { op, rs1, rs2, offset } => with_two_and_number(alloc, branch_name(op), rs1, rs2, offset),
+        Instr::Load { op, rd, rs1, offset } => with_place(alloc, load_name(op), rd, offset, rs1),
+        Instr::Store { op, rs1, rs2, offset } => with_place(alloc, store_name(op), rs2, offset, rs1),
         Instr::Imm { op, rd, rs1, imm } => with_two_and_number(alloc, imm_name(op), rd, rs1, imm),
-        Instr::Shift {
-            op,
-            rd,
-            rs1,
-            amount,
-        } => with_two_and_number(alloc, shift_name(op), rd, rs1, i32::from(amount)),
+        Instr::Shift { op, rd, rs1, amount } => with_two_and_number(alloc, shift_name(op), rd, rs1, i32::from(amount)),
         Instr::Reg { op, rd, rs1, rs2 } => with_three(alloc, reg_name(op), rd, rs1, rs2),
         Instr::Fence { word } => with_word(alloc, "fence", word),
         Instr::FenceI { word } => with_word(alloc, "fence.i", word),
@@ -155,26 +136,10 @@ pub fn text_of(alloc: Global, i: Instr) -> Result<String, AllocError>
         Instr::Ebreak => String::from_str(alloc, "ebreak"),
         Instr::Mret => String::from_str(alloc, "mret"),
         Instr::Wfi => String::from_str(alloc, "wfi"),
-        Instr::Csr {
-            op,
-            rd,
-            rs1,
-            number,
-        } => with_csr(alloc, csr_name(op), rd, number, csr_before(op), rs1),
+        Instr::Csr { op, rd, rs1, number } => with_csr(alloc, csr_name(op), rd, number, csr_before(op), rs1),
         Instr::LoadReserved { rd, rs1, order } => with_address(alloc, "lr.w", order, rd, rs1),
-        Instr::StoreConditional {
-            rd,
-            rs1,
-            rs2,
-            order,
-        } => with_two_and_address(alloc, "sc.w", order, rd, rs2, rs1),
-        Instr::Amo {
-            op,
-            rd,
-            rs1,
-            rs2,
-            order,
-        } => with_two_and_address(alloc, amo_name(op), order, rd, rs2, rs1),
+        Instr::StoreConditional { rd, rs1, rs2, order } => with_two_and_address(alloc, "sc.w", order, rd, rs2, rs1),
+        Instr::Amo { op, rd, rs1, rs2, order } => with_two_and_address(alloc, amo_name(op), order, rd, rs2, rs1),
     }
 }
 

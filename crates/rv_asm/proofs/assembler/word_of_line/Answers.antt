@@ -11,7 +11,11 @@ pub returns-in-None : goal.returns-in-None
 returns-in-None c = not_found c.args.line.now (ap line_of (sym c.scan_line.ensures) ∙ sym c.line_of.ensures ∙ c.in-None.is)
 
 pub returns-else-line_fits : goal.returns-else-line_fits
-returns-else-line_fits c = not_fitting c.args.line.now c.in-Some.l (ap line_of (sym c.scan_line.ensures) ∙ sym c.line_of.ensures ∙ c.in-Some.is) (refused false refl c.if-line_fits.ensures.1)
+returns-else-line_fits c =
+    not_fitting c.args.line.now c.in-Some.l (ap line_of (sym c.scan_line.ensures) ∙ sym c.line_of.ensures ∙ c.in-Some.is)
+    (refused false refl c.if-line_fits.ensures.1)
 
 pub returns-else-branch : goal.returns-else-branch
-returns-else-branch c = not_same c.args.line.now c.in-Some.l (ap line_of (sym c.scan_line.ensures) ∙ sym c.line_of.ensures ∙ c.in-Some.is) (refused c.in_ok-is_text_of-in-Some.field-0 c.if-branch.false c.in_ok-is_text_of-in-Some.ensures.1)
+returns-else-branch c =
+    not_same c.args.line.now c.in-Some.l (ap line_of (sym c.scan_line.ensures) ∙ sym c.line_of.ensures ∙ c.in-Some.is)
+    (refused c.in_ok-is_text_of-in-Some.field-0 c.if-branch.false c.in_ok-is_text_of-in-Some.ensures.1)
