@@ -11,13 +11,15 @@ use Rattle.order_rules.specs.Places.{Placed, stream, entry_at, earlier}
 use Rattle.order_rules.specs.Orderly.{Spot}
 use Rattle.order_rules.specs.Laws.{IsBefore}
 use Rattle.order_rules.proofs.Numbers.{in_stream}
-use Rattle.log_order.proofs.Lists.{any_there, none_there, any_in_take, none_in_take, get_take, in_take}
+use Rattle.shared_types.proofs.Lists.{any_there, none_there, get_take, in_take}
+use Rattle.log_order.proofs.Lists.{any_in_take, none_in_take}
 
 module _ (f : Entry → Bool) where
   all_of : List (List Entry) → List Entry
   all_of streams = flat_map (λ s. s) streams
 
-  any_in_all : (streams : List (List Entry)) (g j : ℕ) (s : List Entry) (e : Entry) → slice_get streams g ≡ Some s → slice_get s j ≡ Some e → f e ≡ true → list_any f (flat_map (λ z. z) streams) ≡ true
+  any_in_all : (streams : List (List Entry)) (g j : ℕ) (s : List Entry) (e : Entry) → slice_get streams g ≡ Some s → slice_get s j ≡ Some e → f e ≡ true
+      → list_any f (flat_map (λ z. z) streams) ≡ true
   any_in_all [] g j s e there at t = absurd (none-some _ there)
   any_in_all (x ∷ streams) zero j s e there at t =
       list_any-append f x (flat_map (λ z. z) streams)
@@ -26,13 +28,17 @@ module _ (f : Entry → Bool) where
       list_any-append f x (flat_map (λ z. z) streams)
       ∙ or_right (list_any f x) (list_any f (flat_map (λ z. z) streams)) (any_in_all streams g j s e there at t)
 
-  none_in_all : (streams : List (List Entry)) → ((g j : ℕ) (s : List Entry) (e : Entry) → slice_get streams g ≡ Some s → slice_get s j ≡ Some e → f e ≡ false) → list_any f (flat_map (λ z. z) streams) ≡ false
+  none_in_all : (streams : List (List Entry))
+      → ((g j : ℕ) (s : List Entry) (e : Entry) → slice_get streams g ≡ Some s → slice_get s j ≡ Some e → f e ≡ false)
+      → list_any f (flat_map (λ z. z) streams) ≡ false
   none_in_all [] h = refl
   none_in_all (x ∷ streams) h =
       list_any-append f x (flat_map (λ z. z) streams)
-      ∙ or_from (list_any f x) (list_any f (flat_map (λ z. z) streams)) (none_there f x (λ j e at. h 0 j x e refl at)) (none_in_all streams (λ g j s e there at. h (suc g) j s e there at))
+      ∙ or_from (list_any f x) (list_any f (flat_map (λ z. z) streams)) (none_there f x (λ j e at. h 0 j x e refl at))
+      (none_in_all streams (λ g j s e there at. h (suc g) j s e there at))
 
-  pub any_earlier : (log : Log) (x : Placed) (q : Spot) (e : Entry) → IsBefore q (x.hart, x.place) → entry_at log q.0 q.1 ≡ Some e → f e ≡ true → list_any f (earlier log x) ≡ true
+  pub any_earlier : (log : Log) (x : Placed) (q : Spot) (e : Entry) → IsBefore q (x.hart, x.place) → entry_at log q.0 q.1 ≡ Some e → f e ≡ true
+      → list_any f (earlier log x) ≡ true
   any_earlier log x q e before at t =
       let whole = flat_map (λ z. z) (take x.hart log.streams) in
       let own = take x.place (stream log x.hart) in
@@ -43,7 +49,8 @@ module _ (f : Entry → Bool) where
             (any_in_take f (stream log x.hart) x.place q.1 e same.1 (subst (λ (h : ℕ). entry_at log h q.1 ≡ Some e) same.0 at) t)
       ]
 
-  pub none_earlier : (log : Log) (x : Placed) → ((q : Spot) (e : Entry) → IsBefore q (x.hart, x.place) → entry_at log q.0 q.1 ≡ Some e → f e ≡ false) → list_any f (earlier log x) ≡ false
+  pub none_earlier : (log : Log) (x : Placed) → ((q : Spot) (e : Entry) → IsBefore q (x.hart, x.place) → entry_at log q.0 q.1 ≡ Some e → f e ≡ false)
+      → list_any f (earlier log x) ≡ false
   none_earlier log x h =
       let whole = flat_map (λ z. z) (take x.hart log.streams) in
       let own = take x.place (stream log x.hart) in

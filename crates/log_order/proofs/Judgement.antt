@@ -1,10 +1,10 @@
 -- Each log has a least order, and so is orderly or has a report.
-use Rattle.std.proofs.Common.{◌≡◌, ℕ, zero, suc, ◌+◌, ◌<◌, ◌≤◌, Bool, true, false, cond, List, [], ◌∷◌, length, Option, Some, None, refl, sym, ap, ◌∙◌, subst, inl, inr, ◌⊎◌, arith, find, replicate}
+use Rattle.std.proofs.Common.{◌≡◌, ℕ, zero, suc, ◌+◌, ◌<◌, Bool, true, List, [], ◌∷◌, length, Option, Some, None, refl, sym, ◌∙◌, inl, inr, ◌⊎◌, arith, find}
 use Rattle.std.specs.Prelude.{is_some}
 use Rattle.std.specs.Option.{option_map_or}
 use Rattle.std.proofs.Math.ListN.{length-replicate}
 use Rattle.std.proofs.lemmas.Bool.{true≢false}
-use Rattle.std.proofs.lemmas.Option.{none-some, same_Some, slice_get_within}
+use Rattle.std.proofs.lemmas.Option.{none-some, slice_get_within}
 use Rattle.orders_law.specs.Orders.{below, least, IsLeast}
 use Rattle.log_entry.specs.declared.log.Log.{Log}
 use Rattle.order_rules.specs.Places.{stream}
@@ -13,8 +13,8 @@ use Rattle.order_rules.specs.Orderly.{Spot, spots, Keeps, IsOrderly, IsLeastBrea
 use Rattle.order_rules.proofs.Numbers.{in_stream}
 use Rattle.log_order.specs.Judgement.{EachIsJudged}
 use Rattle.log_order.specs.Steps.{left}
-use Rattle.log_order.proofs.Judged.{passes}
-use Rattle.log_order.proofs.Taken.{taking, places_stay, fewer_left}
+use Rattle.log_order.proofs.Refusals.{passes}
+use Rattle.log_order.proofs.OneStep.{taking, places_stay, fewer_left}
 
 -- what a step of the least order took
 pub record Step (log : Log) (c : Cursor) (h : ℕ) : Type 0 where
@@ -38,7 +38,8 @@ order_from : (log : Log) (n : ℕ) (c : Cursor) → left log.streams c.places < 
 order_from log zero c few width = absurd (omega (arith, few))
 order_from log (suc n) c few width = by (least (take_one log) (length log.streams) c) refl (λ m l w. order_from log n m l w)
   where
-    by : (o : Option ℕ) → least (take_one log) (length log.streams) c ≡ o → ((m : Cursor) → left log.streams m.places < n → length m.places ≡ length log.streams → Order log m) → Order log c
+    by : (o : Option ℕ) → least (take_one log) (length log.streams) c ≡ o
+        → ((m : Cursor) → left log.streams m.places < n → length m.places ≡ length log.streams → Order log m) → Order log c
     by None is rest = record { legs = []; end = c; goes = (is, refl) }
     by (Some h) is rest =
         let s = step_of log c h (passes (λ g. is_some (take_one log g c)) (below (length log.streams)) h is) in
@@ -51,10 +52,12 @@ order_from log (suc n) c few width = by (least (take_one log) (length log.stream
 order_of : (log : Log) → Order log (start log)
 order_of log = order_from log (suc (left log.streams (start log).places)) (start log) (omega arith) (length-replicate (length log.streams) 0)
 
-kept : (log : Log) (n : ℕ) (rule : Log → Spot → Bool) (others : List (Log → Spot → Bool)) → first_broken log n (rule ∷ others) ≡ None → Keeps log rule × (first_broken log (n + 1) others ≡ None)
+kept : (log : Log) (n : ℕ) (rule : Log → Spot → Bool) (others : List (Log → Spot → Bool)) → first_broken log n (rule ∷ others) ≡ None
+    → Keeps log rule × (first_broken log (n + 1) others ≡ None)
 kept log n rule others none = by (find (rule log) (spots log)) refl none
   where
-    by : (o : Option Spot) → find (rule log) (spots log) ≡ o → option_map_or (λ p. Some (n, p)) o (first_broken log (n + 1) others) ≡ None → Keeps log rule × (first_broken log (n + 1) others ≡ None)
+    by : (o : Option Spot) → find (rule log) (spots log) ≡ o → option_map_or (λ p. Some (n, p)) o (first_broken log (n + 1) others) ≡ None
+        → Keeps log rule × (first_broken log (n + 1) others ≡ None)
     by None is none = (is, none)
     by (Some p) is none = absurd (none-some _ (sym none))
 
@@ -83,7 +86,8 @@ each_is_judged log = by (first_broken log 1 rules) refl
           least_order_takes_all = leaves;
         }
 
-    over : first_broken log 1 rules ≡ None → (p : Option Spot) → LeastOrderLeaves log p → IsOrderly log ⊎ ((rule : ℕ) × ((hart : ℕ) × ((entry : ℕ) × IsLeastBreak log rule hart entry)))
+    over : first_broken log 1 rules ≡ None → (p : Option Spot) → LeastOrderLeaves log p
+        → IsOrderly log ⊎ ((rule : ℕ) × ((hart : ℕ) × ((entry : ℕ) × IsLeastBreak log rule hart entry)))
     over none None leaves = inl (orderly none leaves)
     over none (Some p) leaves = inr (9, (p.0, (p.1, inr (refl, none, leaves))))
 

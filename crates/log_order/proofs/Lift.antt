@@ -11,7 +11,8 @@ use Rattle.order_rules.proofs.Least.{first_is_least}
 use Rattle.log_order.specs.InStream.{IsFirst}
 
 -- the stream of a hart, as code reads it
-pub reading : (streams given : List (List Entry)) (h : ℕ) (s t : List Entry) → given ≡ streams → h < length given → s ≡ get_or given h s → t ≡ s → slice_get streams h ≡ Some t
+pub reading : (streams given : List (List Entry)) (h : ℕ) (s t : List Entry) → given ≡ streams → h < length given → s ≡ get_or given h s → t ≡ s
+    → slice_get streams h ≡ Some t
 reading streams given h s t same lt read shown =
     ap (λ (xs : List (List Entry)). slice_get xs h) (sym same) ∙ slice_get_read given (length given) h s refl lt read ∙ ap Some (sym shown)
 
@@ -52,5 +53,7 @@ first_along test other same n (Some i) f = (f.0, same i ∙ f.1, λ j l. same j 
 
 -- a rule whose test looks at one stream alone
 module _ (log : Log) (rule : Spot → Bool) (test : List Entry → ℕ → Bool) (same : (p : Spot) → rule p ≡ test (stream log p.0) p.1) where
-  pub in_row : (h : ℕ) (t : List Entry) → slice_get log.streams h ≡ Some t → (r : Option ℕ) → IsFirst (test t) (length t + 1) r → IsFirst (λ j. rule (h, j)) (length t + 1) r
-  in_row h t got r f = first_along (test t) (λ j. rule (h, j)) (λ j. same (h, j) ∙ ap (λ (o : Option (List Entry)). test (unwrap_or o []) j) got) (length t + 1) r f
+  pub in_row : (h : ℕ) (t : List Entry) → slice_get log.streams h ≡ Some t → (r : Option ℕ) → IsFirst (test t) (length t + 1) r
+      → IsFirst (λ j. rule (h, j)) (length t + 1) r
+  in_row h t got r f =
+      first_along (test t) (λ j. rule (h, j)) (λ j. same (h, j) ∙ ap (λ (o : Option (List Entry)). test (unwrap_or o []) j) got) (length t + 1) r f

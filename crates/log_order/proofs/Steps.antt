@@ -21,7 +21,8 @@ same_block cp cx cy one two h =
     let down : cy ≡ cp = omega (arith, same, one, two) in
     (eq-eqb cp cx up, eq-eqb cy cp down)
 
-block : (a b c ty ey tp ep pp px : Bool) → (c ≡ true → (a ≡ true) × (b ≡ true)) → (a && (tp || ep || px)) ≡ false → (b && (ty || ey || pp)) ≡ false → (c && (ty || ey || px)) ≡ false
+block : (a b c ty ey tp ep pp px : Bool) → (c ≡ true → (a ≡ true) × (b ≡ true)) → (a && (tp || ep || px)) ≡ false → (b && (ty || ey || pp)) ≡ false
+    → (c && (ty || ey || px)) ≡ false
 block a b false ty ey tp ep pp px h p q = refl
 block false b true ty ey tp ep pp px h p q = absurd (let never = (h refl).0 in cc)
 block true false true ty ey tp ep pp px h p q = absurd (let never = (h refl).1 in cc)
@@ -29,15 +30,18 @@ block true true true ty ey tp ep pp px h p q = or_from (ty || ey) px (or_parts (
 
 one_quiet : (y p x : Entry) → count_of y ≤ count_of p → count_of p ≤ count_of x → is_wrong p x ≡ false → is_wrong y p ≡ false → is_wrong y x ≡ false
 one_quiet y p x yp px wrong before =
-    block (eqb (count_of p) (count_of x)) (eqb (count_of y) (count_of p)) (eqb (count_of y) (count_of x)) (is_touch y) (is_end y) (is_touch p) (is_end p) (is_poll p) (is_poll x)
+    block (eqb (count_of p) (count_of x)) (eqb (count_of y) (count_of p)) (eqb (count_of y) (count_of x)) (is_touch y) (is_end y) (is_touch p) (is_end p)
+    (is_poll p) (is_poll x)
     (same_block (count_of p) (count_of x) (count_of y) yp px) wrong before
 
-all_quiet : (p x : Entry) → count_of p ≤ count_of x → is_wrong p x ≡ false → (ys : List Entry) → list_all (λ y. nat_le (count_of y) (count_of p)) ys ≡ true → list_any (λ y. is_wrong y p) ys ≡ false → list_any (λ y. is_wrong y x) ys ≡ false
+all_quiet : (p x : Entry) → count_of p ≤ count_of x → is_wrong p x ≡ false → (ys : List Entry) → list_all (λ y. nat_le (count_of y) (count_of p)) ys ≡ true
+    → list_any (λ y. is_wrong y p) ys ≡ false → list_any (λ y. is_wrong y x) ys ≡ false
 all_quiet p x px wrong [] low before = refl
 all_quiet p x px wrong (y ∷ ys) low before =
     let l = and_parts (nat_le (count_of y) (count_of p)) (list_all (λ z. nat_le (count_of z) (count_of p)) ys) low in
     let b = or_parts (is_wrong y p) (list_any (λ z. is_wrong z p) ys) before in
-    or_from (is_wrong y x) (list_any (λ z. is_wrong z x) ys) (one_quiet y p x (leb-true (count_of y) (count_of p) l.0) px wrong b.0) (all_quiet p x px wrong ys l.1 b.1)
+    or_from (is_wrong y x) (list_any (λ z. is_wrong z x) ys) (one_quiet y p x (leb-true (count_of y) (count_of p) l.0) px wrong b.0)
+    (all_quiet p x px wrong ys l.1 b.1)
 
 weaken : (a b : ℕ) → a ≤ b → (ys : List Entry) → list_all (λ y. nat_le (count_of y) a) ys ≡ true → list_all (λ y. nat_le (count_of y) b) ys ≡ true
 weaken a b le [] low = refl
@@ -67,8 +71,10 @@ at_place s k lt = elim ((slice_get_cases s k).1) [
 rises : (s : List Entry) → NoFall s → (k : ℕ) (p x : Entry) → slice_get s k ≡ Some p → slice_get s (suc k) ≡ Some x → count_of p ≤ count_of x
 rises s n k p x f e =
     let h : falls s (suc k) ≡ false = n (suc k) (slice_get_within s (suc k) x e) in
-    let one : falls s (suc k) ≡ is_some_and (previous_in s (suc k)) (λ q. nat_lt (count_of x) (count_of q)) = ap (λ (o : Option Entry). is_some_and o (λ z. is_some_and (previous_in s (suc k)) (λ q. nat_lt (count_of z) (count_of q)))) e in
-    let two : is_some_and (previous_in s (suc k)) (λ q. nat_lt (count_of x) (count_of q)) ≡ nat_lt (count_of x) (count_of p) = ap (λ (o : Option Entry). is_some_and o (λ q. nat_lt (count_of x) (count_of q))) (before-suc s k ∙ f) in
+    let one : falls s (suc k) ≡ is_some_and (previous_in s (suc k)) (λ q. nat_lt (count_of x) (count_of q)) =
+    ap (λ (o : Option Entry). is_some_and o (λ z. is_some_and (previous_in s (suc k)) (λ q. nat_lt (count_of z) (count_of q)))) e in
+    let two : is_some_and (previous_in s (suc k)) (λ q. nat_lt (count_of x) (count_of q)) ≡ nat_lt (count_of x) (count_of p) =
+    ap (λ (o : Option Entry). is_some_and o (λ q. nat_lt (count_of x) (count_of q))) (before-suc s k ∙ f) in
     ltb-false (count_of x) (count_of p) (sym two ∙ sym one ∙ h)
 
 front : (s : List Entry) (k : ℕ) (q : At s k) → k < length s → take (suc k) s ≡ take k s ++ (q.entry ∷ [])
@@ -86,7 +92,8 @@ lower (x ∷ s) n (suc k) p f =
     let low : ℕ → List Entry → Bool = λ c. list_all (λ y. nat_le (count_of y) c) in
     ap (low (count_of p)) (front (x ∷ s) k q lt')
     ∙ list_all-append (λ y. nat_le (count_of y) (count_of p)) (take k (x ∷ s)) (q.entry ∷ [])
-    ∙ and_from (low (count_of p) (take k (x ∷ s))) (nat_le (count_of q.entry) (count_of p) && true) rest (and_from (nat_le (count_of q.entry) (count_of p)) true (le-leb (count_of q.entry) (count_of p) up) refl)
+    ∙ and_from (low (count_of p) (take k (x ∷ s))) (nat_le (count_of q.entry) (count_of p) && true) rest
+    (and_from (nat_le (count_of q.entry) (count_of p)) true (le-leb (count_of q.entry) (count_of p) up) refl)
 
 last_decides : (a b : Bool) → (b ≡ false → a ≡ false) → (a || (b || false)) ≡ b
 last_decides true true h = refl
@@ -100,15 +107,18 @@ wrong_step s n k lt quiet =
     let p = at_place s k lt' in
     let x = at_place s (suc k) lt in
     let wrong : Entry → List Entry → Bool = λ z. list_any (λ y. is_wrong y z) in
-    let before : wrong p.entry (take k s) ≡ false = sym (ap (λ (o : Option Entry). is_some_and o (λ z. list_any (λ y. is_wrong y z) (take k s))) p.got) ∙ quiet in
-    let left : o2_in s (suc k) ≡ wrong x.entry (take (suc k) s) = ap (λ (o : Option Entry). is_some_and o (λ z. list_any (λ y. is_wrong y z) (take (suc k) s))) x.got in
+    let before : wrong p.entry (take k s) ≡ false =
+    sym (ap (λ (o : Option Entry). is_some_and o (λ z. list_any (λ y. is_wrong y z) (take k s))) p.got) ∙ quiet in
+    let left : o2_in s (suc k) ≡ wrong x.entry (take (suc k) s) =
+    ap (λ (o : Option Entry). is_some_and o (λ z. list_any (λ y. is_wrong y z) (take (suc k) s))) x.got in
     let right : steps_wrongly s (suc k) ≡ is_wrong p.entry x.entry =
     ap (λ (o : Option Entry). is_some_and o (λ z. is_some_and (previous_in s (suc k)) (λ y. is_wrong y z))) x.got
     ∙ ap (λ (o : Option Entry). is_some_and o (λ y. is_wrong y x.entry)) (before-suc s k ∙ p.got) in
     let middle : wrong x.entry (take (suc k) s) ≡ is_wrong p.entry x.entry =
     ap (wrong x.entry) (front s k p lt')
     ∙ list_any-append (λ y. is_wrong y x.entry) (take k s) (p.entry ∷ [])
-    ∙ last_decides (wrong x.entry (take k s)) (is_wrong p.entry x.entry) (λ h. all_quiet p.entry x.entry (rises s n k p.entry x.entry p.got x.got) h (take k s) (lower s n k p.entry p.got) before) in
+    ∙ last_decides (wrong x.entry (take k s)) (is_wrong p.entry x.entry)
+    (λ h. all_quiet p.entry x.entry (rises s n k p.entry x.entry p.got x.got) h (take k s) (lower s n k p.entry p.got) before) in
     left ∙ middle ∙ sym right
 
 -- where no place before breaks O2, this place does exactly where its entry follows wrongly on the one before

@@ -1,5 +1,5 @@
 -- What harts hold of a page, and which yields a gain waits for, while the page's entries are taken one by one.
-use Rattle.std.specs.Prelude.{ℕ, ◌≡◌, ◌<◌, ◌++◌, ◌∷◌, ◌==◌, ◌&&◌, ◌||◌, not, nat_le, Bool, false, List, [], filter, length, slice_set, Option, Some, None}
+use Rattle.std.specs.Prelude.{ℕ, ◌≡◌, ◌+◌, ◌*◌, ◌<◌, ◌≤◌, ◌++◌, ◌∷◌, ◌==◌, ◌&&◌, ◌||◌, not, nat_le, Bool, false, List, [], filter, length, sum_by, slice_set, Option, Some, None}
 use Rattle.std.specs.List.{list_any, slice_index_or}
 use lib.Pointwise.{pointwise}
 use Rattle.orders_law.specs.Orders.{below}
@@ -27,6 +27,10 @@ holds_wrongly holds h (Gain count page seq mode waits) = nat_le (strength (Some 
 holds_wrongly holds h (Yield count page seq left) = nat_le (strength (hold_of holds h)) (strength left)
 holds_wrongly holds h _ = false
 
+-- the yields are no more than what has been given back: at most Write by each hart, in two steps
+abbrev pub AreFew : List (Option Mode) → List WaitFor → Type 0
+AreFew holds yields = length yields + sum_by strength holds ≤ 2 * length holds
+
 -- those by other harts
 abbrev pub waits_of : List WaitFor → ℕ → List WaitFor
 waits_of yields h = filter (λ w. not (w.hart == h)) yields
@@ -44,8 +48,11 @@ abbrev pub held_then : Holding → Option (ℕ × Entry) → Holding
 held_then s None = record { holds = s.holds; yields = [] }
 held_then s (Some (h, e)) = record { holds = slice_set s.holds h (holds_then e); yields = yields_after s.yields h e }
 
--- before a number of a page
-pub record IsHeld (log : Log) (page k : ℕ) (s : Holding) : Type 0 where
-  pub size : length s.holds ≡ length log.streams
-  pub holds : (h : ℕ) → h < length log.streams → hold_of s.holds h ≡ held log page h k
-  pub waits : (h : ℕ) → waits_of s.yields h ≡ waits_due log page h k
+-- what each hart holds before a number of a page
+pub record AreHeld (log : Log) (page k : ℕ) (holds : List (Option Mode)) : Type 0 where
+  pub size : length holds ≡ length log.streams
+  pub each : (h : ℕ) → h < length log.streams → hold_of holds h ≡ held log page h k
+
+-- the yields by others are those that a gain by any hart with this number has to wait for
+abbrev pub AreDue : Log → ℕ → ℕ → List WaitFor → Type 0
+AreDue log page k yields = (h : ℕ) → waits_of yields h ≡ waits_due log page h k

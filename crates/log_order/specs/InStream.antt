@@ -1,5 +1,6 @@
 -- The rules that a stream keeps by itself, on the stream and a place of it.
 use Rattle.std.specs.Prelude.{ℕ, ◌≡◌, ◌<◌, ◌==◌, ◌-◌, ◌+◌, ◌%◌, ◌&&◌, ◌||◌, not, nat_lt, nat_le, Bool, true, false, List, length, take, slice_get, Option, Some, None, if◌then◌else◌}
+use Rattle.rv_words.specs.Limits.{poll_distance}
 use Rattle.log_entry.specs.declared.log.Entry.{Entry}
 use Rattle.std.specs.List.{list_any, list_all}
 use Rattle.log_entry.specs.Parts.{count_of, is_end, is_poll, is_touch, is_some_and}
@@ -33,7 +34,7 @@ steps_wrongly s i = is_some_and (slice_get s i) (λ x. is_some_and (previous_in 
 
 -- where a Poll may stand in a stream that ends at this count
 abbrev pub may_poll_in : ℕ → ℕ → ℕ → Bool
-may_poll_in limit end count = (count % 4096 == 0) && (nat_lt count end || ((count == end) && nat_lt count limit))
+may_poll_in limit end count = (count % poll_distance == 0) && (nat_lt count end || ((count == end) && nat_lt count limit))
 
 -- O3 on one stream
 abbrev pub o3_in : ℕ → List Entry → ℕ → Bool
@@ -41,13 +42,13 @@ o3_in limit s i = is_some_and (slice_get s i) (λ x.
     (is_poll x && not (may_poll_in limit (end_count s) (count_of x)))
     || list_any (λ due. not (has_poll s due) && (nat_lt due (count_of x) && list_all (λ e. nat_le (count_of e) due) (take i s))) (polls_due (end_count s)))
 
--- the same by the least multiple of 4,096 that has had no Poll
+-- the same by the least multiple of `poll_distance` that has had no Poll
 abbrev pub polls_wrongly : ℕ → ℕ → ℕ → Entry → Bool
 polls_wrongly limit end due e = nat_lt due (count_of e) || (is_poll e && not (may_poll_in limit end (count_of e)))
 
 -- that multiple after an entry
 abbrev pub due_after : ℕ → Entry → ℕ
-due_after due e = if is_poll e && (count_of e == due) then due + 4096 else due
+due_after due e = if is_poll e && (count_of e == due) then due + poll_distance else due
 
 -- the first place below a bound that passes a test, or nothing where none does
 abbrev pub IsFirst : (ℕ → Bool) → ℕ → Option ℕ → Type 0

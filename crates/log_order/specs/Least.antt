@@ -17,9 +17,14 @@ abbrev pub lesser : Option Leg → Leg → Option Leg
 lesser None leg = Some leg
 lesser (Some p) leg = if is_before leg p then Some leg else Some p
 
+-- the least so far, after an entry that may break the rule
+abbrev pub least_with : Bool → Option Leg → Leg → Option Leg
+least_with breaks best leg = if breaks then lesser best leg else best
+
 -- an entry that stands before a number of a row, or in a row before it
 abbrev pub IsNumberedBelow : Series → Log → ℕ → ℕ → Spot → Type 0
-IsNumberedBelow series log row number q = (e : Entry) × ((n : ℕ × ℕ) × (entry_at log q.0 q.1 ≡ Some e) × (key_of series e ≡ Some n) × ((n.0 < row) ⊎ ((n.0 ≡ row) × (n.1 < number))))
+IsNumberedBelow series log row number q =
+    (e : Entry) × ((n : ℕ × ℕ) × (entry_at log q.0 q.1 ≡ Some e) × (key_of series e ≡ Some n) × ((n.0 < row) ⊎ ((n.0 ≡ row) × (n.1 < number))))
 
 -- of the entries seen, the least that breaks the rule
 pub record IsLeastSoFar (log : Log) (test : Spot → Bool) (seen : Spot → Type 0) (best : Option Leg) : Type 0 where

@@ -68,5 +68,7 @@ RowsBelow series log width = (h i : ℕ) (e : Entry) (n : ℕ × ℕ) → entry_
 pub record AreFilled (series : Series) (log : Log) (h i : ℕ) (rows : List (List (Option Leg))) : Type 0 where
   pub width : length rows ≡ width_of series log
   pub sizes : (g : ℕ) → g < length rows → length (row_of rows g) ≡ size_of_row series log g
-  pub stands : (p : Leg) (e : Entry) (n : ℕ × ℕ) → IsBefore (spot_of p) (h, i) → entry_at log p.hart p.entry ≡ Some e → key_of series e ≡ Some n → slot rows n ≡ Some p
-  pub only : (p : Leg) (n : ℕ × ℕ) → slot rows n ≡ Some p → IsBefore (spot_of p) (h, i) × ((e : Entry) × (entry_at log p.hart p.entry ≡ Some e) × (key_of series e ≡ Some n))
+  pub stands : (p : Leg) (e : Entry) (n : ℕ × ℕ) → IsBefore (spot_of p) (h, i) → entry_at log p.hart p.entry ≡ Some e → key_of series e ≡ Some n
+      → slot rows n ≡ Some p
+  pub only : (p : Leg) (n : ℕ × ℕ) → slot rows n ≡ Some p
+      → IsBefore (spot_of p) (h, i) × ((e : Entry) × (entry_at log p.hart p.entry ≡ Some e) × (key_of series e ≡ Some n))

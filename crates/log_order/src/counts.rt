@@ -11,7 +11,8 @@ fn count_entry(series: Series, e: &Entry, counts: &mut [usize])
     requires row { (n : ℕ × ℕ) → key_of series e.now ≡ Some n → n.0 < length counts.old }
     requires room { (g : ℕ) → slice_index counts.old g < 2 ^ 60 }
     ensures length { length counts.new ≡ length counts.old }
-    ensures counts { (g : ℕ) → slice_index counts.new g ≡ slice_index counts.old g + cond (is_in_row series g e.now) 1 0 }
+    ensures counts { (g : ℕ) → slice_index counts.new g
+        ≡ slice_index counts.old g + cond (is_in_row series g e.now) 1 0 }
 {
     if let Some((row, _)) = key(series, e) {
         counts[row] += 1;
@@ -19,11 +20,13 @@ fn count_entry(series: Series, e: &Entry, counts: &mut [usize])
 }
 
 fn count_stream(series: Series, s: &[Entry], counts: &mut [usize])
-    requires rows { (i : ℕ) (e : AnEntry) (n : ℕ × ℕ) → slice_get s.now i ≡ Some e → key_of series e ≡ Some n → n.0 < length counts.old }
+    requires rows { (i : ℕ) (e : AnEntry) (n : ℕ × ℕ) → slice_get s.now i ≡ Some e
+        → key_of series e ≡ Some n → n.0 < length counts.old }
     requires room { (g : ℕ) → slice_index counts.old g < 2 ^ 40 }
     requires short { length s.now < 2 ^ 32 }
     ensures length { length counts.new ≡ length counts.old }
-    ensures counts { (g : ℕ) → slice_index counts.new g ≡ slice_index counts.old g + count_by (is_in_row series g) s.now }
+    ensures counts { (g : ℕ) → slice_index counts.new g
+        ≡ slice_index counts.old g + count_by (is_in_row series g) s.now }
 {
     for i in 0..s.len() {
         count_entry(series, &s[i], counts);

@@ -63,7 +63,8 @@ impl Cursor {
     /// The first entry of a hart that isn't taken.
     fn first_left<'a>(&self, l: &'a Log, hart: usize) -> Option<&'a Entry>
         requires { hart < length self.now.places }
-        ensures entry { MatchOption result (first_left_of l.now self.now hart ≡ None) (λ e. first_left_of l.now self.now hart ≡ Some e.now) }
+        ensures entry { MatchOption result (first_left_of l.now self.now hart ≡ None)
+            (λ e. first_left_of l.now self.now hart ≡ Some e.now) }
         ensures room { IfSome result (λ _. slice_index self.now.places hart + 1 < 2 ^ 64) }
     {
         let streams = l.streams.items();
@@ -94,7 +95,8 @@ impl Cursor {
     /// A hart takes its first entry left, where it can.
     fn take(&mut self, l: &Log, hart: usize) -> Option<usize>
         requires { hart < length self.old.places }
-        ensures { MatchOption result ((take_one l.now hart self.old ≡ None) × (self.new ≡ self.old)) (λ place. take_one l.now hart self.old ≡ Some (self.new, place)) }
+        ensures { MatchOption result ((take_one l.now hart self.old ≡ None) × (self.new ≡ self.old))
+            (λ place. take_one l.now hart self.old ≡ Some (self.new, place)) }
     {
         let e = self.first_left(l, hart)?;
         if !self.guard_is_met(e) {

@@ -1,5 +1,5 @@
 //! What harts hold of a page while its entries are taken one by one.
-ghost use Rattle.std.specs.Prelude.{◌≡◌, ◌<◌, ◌&&◌, ◌||◌, ◌==◌, not, [], length, replicate, Some, None, IfOk};
+ghost use Rattle.std.specs.Prelude.{◌≡◌, ◌<◌, ◌&&◌, ◌||◌, ◌==◌, not, false, [], length, replicate, slice_set, Some, None, IfOk};
 ghost use lib.Pointwise.{pointwise};
 ghost use Rattle.log_entry.specs.Parts.{conflict as conflict_of, holds_then as holds_then_of, strength as strength_of};
 ghost use Rattle.order_rules.specs.Rules.{same_wait as is_same_wait};
@@ -9,7 +9,8 @@ use log_entry::{Entry, Mode, WaitFor};
 use std::alloc::{AllocError, Global};
 use std::marker::Model;
 
-/// What each hart holds of a page, and the page's yields since its latest gain.
+/// What each hart holds of a page, and the page's yields since its latest gain. These are few, since each left
+/// less than its hart held.
 #[derive(Debug, Drop)]
 pub(crate) struct Holding {
     holds: Vec<Option<Mode>>,
@@ -17,11 +18,13 @@ pub(crate) struct Holding {
 }
 
 impl Model for Holding {
-    ghost use Rattle.log_order.specs.Holding.{Holding as HoldingView};
+    ghost use Rattle.log_order.specs.Holding.{Holding as HoldingView, AreFew};
 
     ghost Value = { HoldingView };
 
     ghost view = { λ h. record { holds = h.holds.items; yields = h.yields.items } };
+
+    ghost invariant = { λ h. AreFew h.holds.items h.yields.items };
 }
 
 fn holds_then(e: &Entry) -> Option<Mode>
@@ -139,9 +142,10 @@ impl Holding {
         self.yields.clear();
     }
 
-    /// The entry of a hart is taken.
+    /// The entry of a hart is taken, which neither gives too little nor leaves too much.
     pub(crate) fn take(&mut self, hart: u8, e: &Entry) -> Result<(), AllocError>
-        requires { hart < length self.old.holds }
+        requires hart { hart < length self.old.holds }
+        requires right { holds_wrongly_in self.old.holds hart e.now ≡ false }
         ensures { IfOk result (λ _. self.new ≡ held_then self.old (Some (hart, e.now))) }
     {
         self.holds[hart as usize] = holds_then(e);
@@ -153,5 +157,14 @@ impl Holding {
             _ => self.yields.clear(),
         }
         Ok(())
+    }
+
+    /// The entry of a hart is taken, whatever it gives or leaves. No yields are kept.
+    pub(crate) fn take_hold(&mut self, hart: u8, e: &Entry)
+        requires { hart < length self.old.holds }
+        ensures { self.new ≡ record { holds = slice_set self.old.holds hart (holds_then_of e.now); yields = [] } }
+    {
+        self.holds[hart as usize] = holds_then(e);
+        self.yields.clear();
     }
 }

@@ -1,6 +1,6 @@
 //! The least entry that breaks a rule.
-ghost use Rattle.std.specs.Prelude.{◌≡◌, ◌≤◌, if◌then◌else◌};
-ghost use Rattle.log_order.specs.Least.{is_before as comes_before, lesser as lesser_of};
+ghost use Rattle.std.specs.Prelude.{◌≡◌, ◌≤◌};
+ghost use Rattle.log_order.specs.Least.{is_before as comes_before, least_with};
 
 use crate::orderly::Leg;
 
@@ -12,7 +12,7 @@ fn is_before(a: Leg, b: Leg) -> bool
 
 /// The least so far, after an entry that may break the rule.
 pub(crate) fn lesser(best: Option<Leg>, leg: Leg, breaks: bool) -> Option<Leg>
-    ensures { result ≡ if breaks then lesser_of best leg else best }
+    ensures { result ≡ least_with breaks best leg }
 {
     match best {
         _ if !breaks => best,

@@ -33,7 +33,8 @@ fn is_end(l: &Log, leg: Leg) -> bool
 /// Adds an entry to the legs, unless it is an End.
 fn add(l: &Log, leg: Leg, legs: &mut Vec<Leg>) -> Result<(), AllocError>
     requires { (e : AnEntry) × (entry_at l.now leg.hart leg.entry ≡ Some e) }
-    ensures { IfOk result (λ _. legs.new.items ≡ if is_some_and (entry_at l.now leg.hart leg.entry) is_end_entry then legs.old.items else legs.old.items ++ leg ∷ []) }
+    ensures { IfOk result (λ _. legs.new.items ≡ if is_some_and (entry_at l.now leg.hart leg.entry) is_end_entry
+        then legs.old.items else legs.old.items ++ leg ∷ []) }
 {
     if !is_end(l, leg) {
         legs.push(leg)?;

@@ -5,9 +5,7 @@ ghost use Rattle.order_rules.specs.Rules.{end_count as end_count_of};
 ghost use Rattle.log_order.specs.InStream.{o1_in, o2_in, o3_in, falls as falls_in, steps_wrongly as steps_wrongly_in, may_poll_in, polls_wrongly as polls_wrongly_in, due_after, NoFall, IsFirst};
 
 use log_entry::Entry;
-
-/// The distance of polls.
-const POLLS: u64 = 4096;
+use rv_words::POLL_DISTANCE;
 
 fn count(e: &Entry) -> u64
     ensures { result ≡ count_of e.now }
@@ -114,7 +112,7 @@ fn end_count(s: &[Entry]) -> u64
 fn may_poll(limit: u64, end: u64, at: u64) -> bool
     ensures { result ≡ may_poll_in limit end at }
 {
-    at % POLLS == 0 && (at < end || (at == end && at < limit))
+    at % POLL_DISTANCE == 0 && (at < end || (at == end && at < limit))
 }
 
 fn polls_wrongly(limit: u64, end: u64, due: u64, e: &Entry) -> bool
@@ -128,7 +126,7 @@ fn next_due(due: u64, e: &Entry) -> u64
     ensures { result ≡ due_after due e.now }
 {
     if is_poll(e) && count(e) == due {
-        due + POLLS
+        due + POLL_DISTANCE
     } else {
         due
     }

@@ -4,7 +4,7 @@ use Rattle.std.proofs.lemmas.List.Sums.{count_by-le-length}
 use Rattle.order_rules.specs.Places.{stream}
 use Rattle.log_order.specs.Rows.{is_in_row}
 use Rattle.log_order.proofs.Lift.{reading}
-use Rattle.log_order.proofs.Counted.{stream_counted}
+use Rattle.log_order.proofs.EntryCounts.{stream_counted}
 use Rattle.log_order.proofs.counts.count_log.Goals as goal
 
 pub loop-h-preserved : goal.loop-h-preserved
@@ -12,7 +12,8 @@ loop-h-preserved c =
     let log = c.args.l.now in
     let h = c.loop-h.h in
     let t = c.items.result.now in
-    let got = reading log.streams c.items-streams.result.now h c.index-streams-h.result t c.items-streams.ensures c.loop-h-test.true c.index-streams-h.is c.items.ensures in
+    let got = reading log.streams c.items-streams.result.now h c.index-streams-h.result t c.items-streams.ensures c.loop-h-test.true c.index-streams-h.is
+    c.items.ensures in
     let same : stream log h ≡ t = ap (λ o. unwrap_or o []) got in
     let small : length t < 2 ^ 32 = (let short = c.requires.short h in let e = ap length same in omega (arith, short, e)) in
     record {

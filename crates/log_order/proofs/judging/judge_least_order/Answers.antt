@@ -1,4 +1,4 @@
-use Rattle.log_order.proofs.Judged.{left_fits}
+use Rattle.log_order.proofs.Refusals.{left_fits}
 use Rattle.log_order.proofs.judging.judge_least_order.Goals as goal
 
 pub tell-requires : goal.tell-requires

@@ -1,8 +1,8 @@
 use Rattle.std.proofs.Common.{sym, ◌∙◌}
 use Rattle.log_order.specs.declared.series.Series.TheVariants.{Ordinals}
 use Rattle.log_order.specs.Rows.{misplaced}
-use Rattle.log_order.proofs.Timed.{o8_where_wrong}
-use Rattle.log_order.proofs.Judged.{spot_fits, refused_with, carried, broken_o8}
+use Rattle.log_order.proofs.TimesAlong.{o8_where_wrong}
+use Rattle.log_order.proofs.Refusals.{spot_fits, refused_with, carried, broken_o8}
 use Rattle.log_order.proofs.judging.judge_ordinals.Goals as goal
 
 pub tell-requires : goal.tell-requires

@@ -1,7 +1,7 @@
 use Rattle.std.proofs.Common.{sym, subst}
 use Rattle.std.specs.Bool.{IsTrue}
 use Rattle.log_entry.specs.Range.{in_range}
-use Rattle.log_order.proofs.Judged.{small}
+use Rattle.log_order.proofs.Refusals.{small}
 use Rattle.log_order.proofs.orderly.least_order.Goals as goal
 
 pub least_legs-requires : goal.least_legs-requires

@@ -1,4 +1,4 @@
-use Rattle.log_order.proofs.Judged.{small}
+use Rattle.log_order.proofs.Refusals.{small}
 use Rattle.log_order.proofs.orderly.put_in_order.Goals as goal
 
 pub judge-requires : goal.judge-requires

@@ -1,6 +1,6 @@
 use Rattle.std.proofs.Common.{◌++◌, ◌∷◌, [], sym, ◌∙◌, subst}
 use Rattle.log_order.specs.Rows.{spot_of}
-use Rattle.log_order.proofs.Going.{IsTaken, begins, goes, leaves, some_goes, none_goes}
+use Rattle.log_order.proofs.OrderSoFar.{IsTaken, begins, goes, leaves, some_goes, none_goes}
 use Rattle.log_order.proofs.orders.least_left.Goals as goal
 
 pub loop-init : goal.loop-init

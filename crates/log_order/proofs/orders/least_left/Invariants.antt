@@ -1,7 +1,7 @@
 use Rattle.std.proofs.Common.{List}
 use Rattle.order_rules.specs.Orderly.{Spot}
 use Rattle.log_order.specs.Steps.{left}
-use Rattle.log_order.proofs.Going.{IsTaken}
+use Rattle.log_order.proofs.OrderSoFar.{IsTaken}
 use Rattle.log_order.proofs.orders.least_left.Given as goal
 
 abbrev pub invariant-loop : goal.invariant-loop

@@ -2,7 +2,7 @@ use Rattle.std.proofs.Common.{◌++◌, ◌∷◌, [], map, refl, ap, ◌∙◌}
 use Rattle.log_entry.specs.Parts.{is_end, is_some_and}
 use Rattle.order_rules.specs.Places.{entry_at}
 use Rattle.log_order.specs.Rows.{spot_of}
-use Rattle.log_order.proofs.Going.{goes, over, legs_then}
+use Rattle.log_order.proofs.OrderSoFar.{goes, over, legs_then}
 use Rattle.log_order.proofs.orders.least_legs.Goals as goal
 
 pub loop-leg-preserved : goal.loop-leg-preserved
@@ -13,7 +13,8 @@ loop-leg-preserved c =
       done ++ spot_of leg ∷ [],
       (
         goes log done c.loop-leg.cursor c.step.new.self leg c.loop-leg.invariant.1.0 c.in-Some.ensures.goes,
-        ap (map spot_of) c.in_ok-add.ensures ∙ legs_then log c.loop-leg.legs.items done leg (is_some_and (entry_at log leg.hart leg.entry) is_end) refl c.loop-leg.invariant.1.1,
+        ap (map spot_of) c.in_ok-add.ensures
+            ∙ legs_then log c.loop-leg.legs.items done leg (is_some_and (entry_at log leg.hart leg.entry) is_end) refl c.loop-leg.invariant.1.1,
       ),
     )
 

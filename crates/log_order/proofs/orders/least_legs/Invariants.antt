@@ -5,7 +5,7 @@ use Rattle.order_rules.specs.Places.{entry_at}
 use Rattle.order_rules.specs.Orderly.{Spot}
 use Rattle.log_order.specs.Rows.{spot_of}
 use Rattle.log_order.specs.Steps.{left}
-use Rattle.log_order.proofs.Going.{IsTaken}
+use Rattle.log_order.proofs.OrderSoFar.{IsTaken}
 use Rattle.log_order.proofs.orders.least_legs.Given as goal
 
 abbrev pub invariant-loop-leg : goal.invariant-loop-leg

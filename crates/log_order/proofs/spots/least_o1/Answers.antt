@@ -8,7 +8,8 @@ pub returns-in-Some : goal.returns-in-Some
 returns-in-Some c =
     let log = c.args.l.now in
     let t = c.items.result.now in
-    let got = reading log.streams c.items-streams.result.now c.loop-h.h c.index-streams-h.result t c.items-streams.ensures c.loop-h-test.true c.index-streams-h.is c.items.ensures in
+    let got = reading log.streams c.items-streams.result.now c.loop-h.h c.index-streams-h.result t c.items-streams.ensures c.loop-h-test.true
+    c.index-streams-h.is c.items.ensures in
     sym (found_row log (o1 log) c.loop-h.h t c.in-Some.i got
     (in_row log (o1 log) (o1_in log.limit) (λ p. refl) c.loop-h.h t got (Some c.in-Some.i) c.in-Some.ensures) c.loop-h.invariant)
 
@@ -16,7 +17,8 @@ pub loop-h-preserved : goal.loop-h-preserved
 loop-h-preserved c =
     let log = c.args.l.now in
     let t = c.items.result.now in
-    let got = reading log.streams c.items-streams.result.now c.loop-h.h c.index-streams-h.result t c.items-streams.ensures c.loop-h-test.true c.index-streams-h.is c.items.ensures in
+    let got = reading log.streams c.items-streams.result.now c.loop-h.h c.index-streams-h.result t c.items-streams.ensures c.loop-h-test.true
+    c.index-streams-h.is c.items.ensures in
     none_row log (o1 log) c.loop-h.h t got
     (in_row log (o1 log) (o1_in log.limit) (λ p. refl) c.loop-h.h t got None c.in_default.ensures) c.loop-h.invariant
 

@@ -2,24 +2,28 @@ use Rattle.std.proofs.Common.{◌≡◌, length, Some, None, sym, ap, refl, arit
 use Rattle.order_rules.specs.Orderly.{o3}
 use Rattle.log_order.specs.InStream.{o3_in}
 use Rattle.log_order.proofs.Lift.{reading, in_row, found_row, none_row, none_left}
-use Rattle.log_order.proofs.Kept.{no_fall, end_within, widen, o3_past}
+use Rattle.log_order.proofs.StreamRules.{no_fall, end_within, widen, o3_past}
 use Rattle.log_order.proofs.spots.least_o3.Goals as goal
 
 pub returns-in-Some : goal.returns-in-Some
 returns-in-Some c =
     let log = c.args.l.now in
     let t = c.items.result.now in
-    let got = reading log.streams c.items-streams.result.now c.loop-h.h c.index-streams-h.result t c.items-streams.ensures c.loop-h-test.true c.index-streams-h.is c.items.ensures in
+    let got = reading log.streams c.items-streams.result.now c.loop-h.h c.index-streams-h.result t c.items-streams.ensures c.loop-h-test.true
+    c.index-streams-h.is c.items.ensures in
     sym (found_row log (o3 log) c.loop-h.h t c.in-Some.i got
-    (in_row log (o3 log) (o3_in log.limit) (λ p. refl) c.loop-h.h t got (Some c.in-Some.i) (widen (o3_in log.limit t) (length t) (o3_past log.limit t) (Some c.in-Some.i) c.in-Some.ensures)) c.loop-h.invariant)
+    (in_row log (o3 log) (o3_in log.limit) (λ p. refl) c.loop-h.h t got (Some c.in-Some.i)
+    (widen (o3_in log.limit t) (length t) (o3_past log.limit t) (Some c.in-Some.i) c.in-Some.ensures)) c.loop-h.invariant)
 
 pub loop-h-preserved : goal.loop-h-preserved
 loop-h-preserved c =
     let log = c.args.l.now in
     let t = c.items.result.now in
-    let got = reading log.streams c.items-streams.result.now c.loop-h.h c.index-streams-h.result t c.items-streams.ensures c.loop-h-test.true c.index-streams-h.is c.items.ensures in
+    let got = reading log.streams c.items-streams.result.now c.loop-h.h c.index-streams-h.result t c.items-streams.ensures c.loop-h-test.true
+    c.index-streams-h.is c.items.ensures in
     none_row log (o3 log) c.loop-h.h t got
-    (in_row log (o3 log) (o3_in log.limit) (λ p. refl) c.loop-h.h t got None (widen (o3_in log.limit t) (length t) (o3_past log.limit t) None c.in_default.ensures)) c.loop-h.invariant
+    (in_row log (o3 log) (o3_in log.limit) (λ p. refl) c.loop-h.h t got None
+    (widen (o3_in log.limit t) (length t) (o3_past log.limit t) None c.in_default.ensures)) c.loop-h.invariant
 
 pub returns : goal.returns
 returns c =
@@ -31,6 +35,7 @@ returns c =
 pub first_o3-requires : goal.first_o3-requires
 first_o3-requires c =
     let log = c.args.l.now in
-    let got = reading log.streams c.items-streams.result.now c.loop-h.h c.index-streams-h.result c.items.result.now c.items-streams.ensures c.loop-h-test.true c.index-streams-h.is c.items.ensures in
+    let got = reading log.streams c.items-streams.result.now c.loop-h.h c.index-streams-h.result c.items.result.now c.items-streams.ensures
+    c.loop-h-test.true c.index-streams-h.is c.items.ensures in
     let end = end_within log c.requires.order c.loop-h.h c.items.result.now got in
     record { order = no_fall log c.requires.order c.loop-h.h c.items.result.now got; bound = omega (arith, end) }

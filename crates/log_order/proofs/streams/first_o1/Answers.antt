@@ -1,6 +1,6 @@
 use Rattle.std.proofs.Common.{sym, ◌∙◌, arith}
 use Rattle.log_order.specs.InStream.{o1_in}
-use Rattle.log_order.proofs.Below.{one_more}
+use Rattle.log_order.proofs.LoopSearch.{one_more}
 use Rattle.log_order.proofs.streams.first_o1.Goals as goal
 
 pub returns-then-breaks_o1 : goal.returns-then-breaks_o1

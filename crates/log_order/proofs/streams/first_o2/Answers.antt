@@ -1,6 +1,6 @@
 use Rattle.std.proofs.Common.{sym, ◌∙◌, arith}
 use Rattle.log_order.specs.InStream.{o2_in}
-use Rattle.log_order.proofs.Below.{one_more}
+use Rattle.log_order.proofs.LoopSearch.{one_more}
 use Rattle.log_order.proofs.Steps.{o2_by_steps}
 use Rattle.log_order.proofs.streams.first_o2.Goals as goal
 

@@ -1,7 +1,7 @@
 use Rattle.std.proofs.Common.{◌≡◌, ℕ, ◌<◌, false, Some, length, sym, ap, ◌∙◌, subst, arith}
 use Rattle.std.specs.Prelude.{is_some}
 use Rattle.order_rules.specs.Cursor.{take_one}
-use Rattle.log_order.proofs.Taken.{none_below, first_below, fewer_left}
+use Rattle.log_order.proofs.OneStep.{none_below, first_below, fewer_left}
 use Rattle.log_order.proofs.cursor.Cursor.step.Goals as goal
 
 pub returns-in-Some-clause-goes : goal.returns-in-Some-clause-goes
@@ -11,7 +11,8 @@ returns-in-Some-clause-goes c =
     let h = c.loop-hart.hart in
     let l : h < length log.streams = subst (λ xs. h < length xs) c.items-hart-end.ensures c.loop-hart-test.true in
     let takes : take_one log h old ≡ Some (c.take.new.self, c.in-Some.place) = ap (take_one log h) (sym c.loop-hart.invariant.same) ∙ c.in-Some.ensures in
-    let none : (j : ℕ) → j < h → is_some (take_one log j old) ≡ false = λ j m. ap (λ s. is_some (take_one log j s)) (sym c.loop-hart.invariant.same) ∙ c.loop-hart.invariant.none j m in
+    let none : (j : ℕ) → j < h → is_some (take_one log j old) ≡ false =
+    λ j m. ap (λ s. is_some (take_one log j s)) (sym c.loop-hart.invariant.same) ∙ c.loop-hart.invariant.none j m in
     (first_below (λ j. is_some (take_one log j old)) (length log.streams) h l (ap is_some takes) none, takes)
 
 pub returns-in-Some-clause-fewer : goal.returns-in-Some-clause-fewer
@@ -30,6 +31,7 @@ returns-clause-goes c =
     let old = c.args.self.now in
     let past = c.loop-hart-test.false in
     let size : length c.items-hart-end.result.now ≡ length log.streams = ap length c.items-hart-end.ensures in (
-      none_below (λ j. is_some (take_one log j old)) (length log.streams) (λ j m. ap (λ s. is_some (take_one log j s)) (sym c.loop-hart.invariant.same) ∙ c.loop-hart.invariant.none j (omega (arith, past, size, m))),
+      none_below (λ j. is_some (take_one log j old)) (length log.streams)
+          (λ j m. ap (λ s. is_some (take_one log j s)) (sym c.loop-hart.invariant.same) ∙ c.loop-hart.invariant.none j (omega (arith, past, size, m))),
       c.loop-hart.invariant.same,
     )

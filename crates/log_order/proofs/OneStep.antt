@@ -42,7 +42,8 @@ pub record Taking (log : Log) (h : ℕ) (c m : Cursor) (p : ℕ) : Type 0 where
 pub taking : (log : Log) (h : ℕ) (c m : Cursor) (p : ℕ) → take_one log h c ≡ Some (m, p) → Taking log h c m p
 taking log h c m p is = by (first_left log c h) refl is
   where
-    met : (e : Entry) (b : Bool) → first_left log c h ≡ Some e → cond {A = Option (Cursor × ℕ)} b (Some (taken c h e, slice_index c.places h)) None ≡ Some (m, p) → Taking log h c m p
+    met : (e : Entry) (b : Bool) → first_left log c h ≡ Some e
+        → cond {A = Option (Cursor × ℕ)} b (Some (taken c h e, slice_index c.places h)) None ≡ Some (m, p) → Taking log h c m p
     met e false there is = absurd (none-some _ is)
     met e true there is =
         let same : (taken c h e, slice_index c.places h) ≡ (m, p) = same_Some _ _ is in
@@ -54,11 +55,14 @@ taking log h c m p is = by (first_left log c h) refl is
           now = ap (λ (z : Cursor × ℕ). z.0) same;
         }
 
-    by : (o : Option Entry) → first_left log c h ≡ o → option_and_then {U = Cursor × ℕ} (λ e. if guard_is_met c e then Some (taken c h e, slice_index c.places h) else None) o ≡ Some (m, p) → Taking log h c m p
+    by : (o : Option Entry) → first_left log c h ≡ o
+        → option_and_then {U = Cursor × ℕ} (λ e. if guard_is_met c e then Some (taken c h e, slice_index c.places h) else None) o ≡ Some (m, p)
+        → Taking log h c m p
     by None there is = absurd (none-some _ is)
     by (Some e) there is = met e (guard_is_met c e) there is
 
-left_falls : (streams : List (List Entry)) (places : List ℕ) (h : ℕ) (s : List Entry) → slice_get streams h ≡ Some s → h < length places → slice_index places h < length s
+left_falls : (streams : List (List Entry)) (places : List ℕ) (h : ℕ) (s : List Entry) → slice_get streams h ≡ Some s → h < length places
+    → slice_index places h < length s
     → left streams (slice_set places h (slice_index places h + 1)) < left streams places
 left_falls [] places h s there l less = absurd (none-some _ there)
 left_falls (x ∷ streams) [] h s there l less = absurd (omega (arith, l))
@@ -80,7 +84,8 @@ places_stay log h c m p is =
 pub place_within : (log : Log) (h : ℕ) (c m : Cursor) (p : ℕ) → take_one log h c ≡ Some (m, p) → p < length (stream log h)
 place_within log h c m p is = let t = taking log h c m p is in slice_get_within (stream log h) p t.entry t.at
 
-pub fewer_left : (log : Log) (h : ℕ) (c m : Cursor) (p : ℕ) → h < length c.places → take_one log h c ≡ Some (m, p) → left log.streams m.places < left log.streams c.places
+pub fewer_left : (log : Log) (h : ℕ) (c m : Cursor) (p : ℕ) → h < length c.places → take_one log h c ≡ Some (m, p)
+    → left log.streams m.places < left log.streams c.places
 fewer_left log h c m p l is =
     let t = taking log h c m p is in
     let within = slice_get_within (stream log h) p t.entry t.at in

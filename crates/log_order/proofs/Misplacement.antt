@@ -20,7 +20,8 @@ same_size (Some x) g = by (x.0 == g)
     by true = refl
     by false = refl
 
-same_key : (o : Option (ℕ × ℕ)) (n : ℕ × ℕ) → is_number n.1 (option_and_then (λ (x : ℕ × ℕ). if x.0 == n.0 then Some x.1 else None) o) ≡ is_some_and o (λ x. (x.0 == n.0) && (x.1 == n.1))
+same_key : (o : Option (ℕ × ℕ)) (n : ℕ × ℕ)
+    → is_number n.1 (option_and_then (λ (x : ℕ × ℕ). if x.0 == n.0 then Some x.1 else None) o) ≡ is_some_and o (λ x. (x.0 == n.0) && (x.1 == n.1))
 same_key None n = refl
 same_key (Some x) n = by (x.0 == n.0)
   where
@@ -39,10 +40,13 @@ misnumbered_page log x = by (page_number x.entry) refl
     by None is = ap (λ o. is_some_and o (λ p. is_misnumbered (number_on p.0) log x)) is
         ∙ ap (λ o. is_some_and o (λ n. nat_le (count_by (is_in_row Pages n.0) (entries log)) n.1 || list_any (has_key Pages n) (earlier log x))) (sym is)
     by (Some n) is =
-        let number : number_on n.0 x.entry ≡ Some n.1 = ap (option_and_then (λ (z : ℕ × ℕ). if z.0 == n.0 then Some z.1 else None)) is ∙ ap (λ b. cond b (Some n.1) None) (eq-eqb n.0 n.0 refl) in
+        let number : number_on n.0 x.entry ≡ Some n.1 =
+        ap (option_and_then (λ (z : ℕ × ℕ). if z.0 == n.0 then Some z.1 else None)) is ∙ ap (λ b. cond b (Some n.1) None) (eq-eqb n.0 n.0 refl) in
         ap (λ o. is_some_and o (λ p. is_misnumbered (number_on p.0) log x)) is
-        ∙ ap (λ o. is_some_and o (λ k. nat_le (count_by (λ e. is_some (number_on n.0 e)) (entries log)) k || list_any (λ e. is_number k (number_on n.0 e)) (earlier log x))) number
-        ∙ ap (λ f. nat_le (count_by f (entries log)) n.1 || list_any (λ e. is_number n.1 (number_on n.0 e)) (earlier log x)) (fun_ext (λ e. same_size (page_number e) n.0))
+        ∙ ap (λ o. is_some_and o
+        (λ k. nat_le (count_by (λ e. is_some (number_on n.0 e)) (entries log)) k || list_any (λ e. is_number k (number_on n.0 e)) (earlier log x))) number
+        ∙ ap (λ f. nat_le (count_by f (entries log)) n.1 || list_any (λ e. is_number n.1 (number_on n.0 e)) (earlier log x))
+        (fun_ext (λ e. same_size (page_number e) n.0))
         ∙ ap (λ f. nat_le (count_by (is_in_row Pages n.0) (entries log)) n.1 || list_any f (earlier log x)) (fun_ext (λ e. same_key (page_number e) n))
         ∙ ap (λ o. is_some_and o (λ n. nat_le (count_by (is_in_row Pages n.0) (entries log)) n.1 || list_any (has_key Pages n) (earlier log x))) (sym is)
 
@@ -61,10 +65,13 @@ misnumbered_ordinal : (log : Log) (x : Placed) → is_misnumbered ordinal_of log
 misnumbered_ordinal log x = by (ordinal_of x.entry)
   where
     of_ordinal : Option ℕ → Bool
-    of_ordinal o = is_some_and o (λ n. nat_le (count_by (λ e. is_some (ordinal_of e)) (entries log)) n || list_any (λ e. is_number n (ordinal_of e)) (earlier log x))
+    of_ordinal o =
+        is_some_and o (λ n. nat_le (count_by (λ e. is_some (ordinal_of e)) (entries log)) n || list_any (λ e. is_number n (ordinal_of e)) (earlier log x))
 
-    by : (o : Option ℕ) → is_some_and o (λ n. nat_le (count_by (λ e. is_some (ordinal_of e)) (entries log)) n || list_any (λ e. is_number n (ordinal_of e)) (earlier log x))
-        ≡ is_some_and {X = ℕ × ℕ} (option_map (λ k. (0, k)) o) (λ n. nat_le (count_by (is_in_row Ordinals n.0) (entries log)) n.1 || list_any (has_key Ordinals n) (earlier log x))
+    by : (o : Option ℕ)
+        → is_some_and o (λ n. nat_le (count_by (λ e. is_some (ordinal_of e)) (entries log)) n || list_any (λ e. is_number n (ordinal_of e)) (earlier log x))
+        ≡ is_some_and {X = ℕ × ℕ} (option_map (λ k. (0, k)) o)
+        (λ n. nat_le (count_by (is_in_row Ordinals n.0) (entries log)) n.1 || list_any (has_key Ordinals n) (earlier log x))
     by None = refl
     by (Some n) =
         ap (λ f. nat_le (count_by f (entries log)) n || list_any (λ e. is_number n (ordinal_of e)) (earlier log x)) (fun_ext (λ e. own_row (ordinal_of e)))

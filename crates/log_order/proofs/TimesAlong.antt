@@ -18,12 +18,13 @@ use Rattle.log_order.specs.declared.orderly.Leg.{Leg}
 use Rattle.log_order.specs.declared.series.Series.TheVariants.{Ordinals}
 use Rattle.log_order.specs.Rows.{key_of, slot, spot_of, is_misplaced, misplaced, AreFilled}
 use Rattle.log_order.proofs.Earlier.{none_earlier}
-use Rattle.log_order.proofs.Numbered.{ordinals_misplace}
+use Rattle.log_order.proofs.Misplacement.{ordinals_misplace}
 use Rattle.log_order.proofs.Everywhere.{all_placed, at_placed}
 
 -- the first entry that passes
 module _ (f : Entry → Bool) where
-  found_in_row : (s : List Entry) (i : ℕ) (e : Entry) (rest : List Entry) → slice_get s i ≡ Some e → list_any f (take i s) ≡ false → f e ≡ true → find f (s ++ rest) ≡ Some e
+  found_in_row : (s : List Entry) (i : ℕ) (e : Entry) (rest : List Entry) → slice_get s i ≡ Some e → list_any f (take i s) ≡ false → f e ≡ true
+      → find f (s ++ rest) ≡ Some e
   found_in_row [] i e rest at none t = absurd (none-some _ at)
   found_in_row (x ∷ s) zero e rest at none t = (let same = same_Some x e at in ap (λ b. cond b (Some x) (find f (s ++ rest))) (ap f same ∙ t) ∙ ap Some same)
   found_in_row (x ∷ s) (suc i) e rest at none t =
@@ -44,7 +45,8 @@ module _ (f : Entry → Bool) where
       let same : x ≡ s = same_Some _ _ there in
       found_in_row x i e (flat_map (λ z. z) streams) (ap (λ z. slice_get z i) same ∙ at) (ap (λ z. list_any f (take i z)) same ∙ none) t
   found_of_all (x ∷ streams) (suc h) i s e there at none t =
-      let regrouped : list_any f (x ++ (flat_map (λ z. z) (take h streams) ++ take i s)) ≡ false = ap (list_any f) (sym (append_assoc x (flat_map (λ z. z) (take h streams)) (take i s))) ∙ none in
+      let regrouped : list_any f (x ++ (flat_map (λ z. z) (take h streams) ++ take i s)) ≡ false =
+      ap (list_any f) (sym (append_assoc x (flat_map (λ z. z) (take h streams)) (take i s))) ∙ none in
       let both = passed_row x (flat_map (λ z. z) (take h streams) ++ take i s) (flat_map (λ z. z) streams) regrouped in
       both.0 ∙ found_of_all streams h i s e there at both.1 t
 
@@ -52,9 +54,12 @@ module _ (f : Entry → Bool) where
   not_in_row [] rest h = refl
   not_in_row (x ∷ s) rest h = ap (λ b. cond b (Some x) (find f (s ++ rest))) (h 0 x refl) ∙ not_in_row s rest (λ i e at. h (suc i) e at)
 
-  pub none_of_all : (streams : List (List Entry)) → ((h i : ℕ) (s : List Entry) (e : Entry) → slice_get streams h ≡ Some s → slice_get s i ≡ Some e → f e ≡ false) → find f (flat_map (λ z. z) streams) ≡ None
+  pub none_of_all : (streams : List (List Entry))
+      → ((h i : ℕ) (s : List Entry) (e : Entry) → slice_get streams h ≡ Some s → slice_get s i ≡ Some e → f e ≡ false)
+      → find f (flat_map (λ z. z) streams) ≡ None
   none_of_all [] h = refl
-  none_of_all (x ∷ streams) h = not_in_row x (flat_map (λ z. z) streams) (λ i e at. h 0 i x e refl at) ∙ none_of_all streams (λ g i s e there at. h (suc g) i s e there at)
+  none_of_all (x ∷ streams) h =
+      not_in_row x (flat_map (λ z. z) streams) (λ i e at. h 0 i x e refl at) ∙ none_of_all streams (λ g i s e there at. h (suc g) i s e there at)
 
 ordinal_from_key : (e : Entry) (k : ℕ) → key_of Ordinals e ≡ Some (0, k) → ordinal_of e ≡ Some k
 ordinal_from_key e k is = by (ordinal_of e) is
@@ -81,16 +86,20 @@ before_not_same p before = elim before [
 
 module _ (log : Log) (rows : List (List (Option Leg))) (filled : AreFilled Ordinals log (length log.streams) 0 rows) where
   its_slot : (h i : ℕ) (e : Entry) (k : ℕ) → entry_at log h i ≡ Some e → ordinal_of e ≡ Some k → slot rows (0, k) ≡ Some (record { hart = h; entry = i })
-  its_slot h i e k at is = filled.stands (record { hart = h; entry = i }) e (0, k) (inl (slice_get_within log.streams h (stream log h) (in_stream log h i e at))) at (ap (option_map {U = ℕ × ℕ} (λ k. (0, k))) is)
+  its_slot h i e k at is =
+      filled.stands (record { hart = h; entry = i }) e (0, k) (inl (slice_get_within log.streams h (stream log h) (in_stream log h i e at))) at
+      (ap (option_map {U = ℕ × ℕ} (λ k. (0, k))) is)
 
-  pub ordinal_there : (k : ℕ) (leg : Leg) (e : Entry) → slot rows (0, k) ≡ Some leg → entry_at log leg.hart leg.entry ≡ Some e → (ordinal_of e ≡ Some k) × (with_ordinal log k ≡ Some e)
+  pub ordinal_there : (k : ℕ) (leg : Leg) (e : Entry) → slot rows (0, k) ≡ Some leg → entry_at log leg.hart leg.entry ≡ Some e
+      → (ordinal_of e ≡ Some k) × (with_ordinal log k ≡ Some e)
   ordinal_there k leg e is at =
       let o = filled.only leg (0, k) is in
       let key : key_of Ordinals e ≡ Some (0, k) = ap (key_of Ordinals) (same_Some e o.1.0 (sym at ∙ o.1.1)) ∙ o.1.2 in
       let own = ordinal_from_key e k key in (
         own,
         found_of_all (λ z. is_number k (ordinal_of z)) log.streams leg.hart leg.entry (stream log leg.hart) e (in_stream log leg.hart leg.entry e at) at
-            (none_earlier (λ z. is_number k (ordinal_of z)) log (record { hart = leg.hart; place = leg.entry; entry = e }) (λ q x before there. false_from_ne_true (is_number k (ordinal_of x)) (λ t.
+            (none_earlier (λ z. is_number k (ordinal_of z)) log (record { hart = leg.hart; place = leg.entry; entry = e })
+            (λ q x before there. false_from_ne_true (is_number k (ordinal_of x)) (λ t.
             let same : record { hart = q.0; entry = q.1 } ≡ leg = same_Some _ _ (sym (its_slot q.0 q.1 x k there (ordinal_from_test x k t)) ∙ is) in
             before_not_same (spot_of leg) (subst (λ (z : Leg). IsBefore (spot_of z) (spot_of leg)) same before))))
             (is_that e k own),
@@ -101,11 +110,14 @@ module _ (log : Log) (rows : List (List (Option Leg))) (filled : AreFilled Ordin
       none-some _ (sym is ∙ its_slot h i e k (ap (λ o. slice_get (unwrap_or o []) i) there ∙ at) (ordinal_from_test e k t))))
 
 right_where_none : (log : Log) → find (misplaced Ordinals log) (spots log) ≡ None → ordinals_are_right log ≡ true
-right_where_none log none = ap (λ test. list_all (λ x. not (test x)) (placed log)) (ordinals_misplace log) ∙ all_placed (λ x. not (is_misplaced Ordinals log x)) log (λ h i e at.
+right_where_none log none =
+    ap (λ test. list_all (λ x. not (test x)) (placed log)) (ordinals_misplace log) ∙ all_placed (λ x. not (is_misplaced Ordinals log x)) log (λ h i e at.
     let spot : IsSpot log.streams (h, i) = (stream log h, in_stream log h i e at, below_length (stream log h) i e at) in
-    ap not (sym (ap (λ o. is_some_and o (λ z. is_misplaced Ordinals log (record { hart = h; place = i; entry = z }))) at) ∙ first_is_least.none log (misplaced Ordinals log) (h, i) none spot))
+    ap not (sym (ap (λ o. is_some_and o (λ z. is_misplaced Ordinals log (record { hart = h; place = i; entry = z }))) at)
+    ∙ first_is_least.none log (misplaced Ordinals log) (h, i) none spot))
 
-stands_at : (log : Log) (test : Placed → Bool) (q : Spot) → at_entry test log q ≡ true → (e : Entry) × ((entry_at log q.0 q.1 ≡ Some e) × (test (record { hart = q.0; place = q.1; entry = e }) ≡ true))
+stands_at : (log : Log) (test : Placed → Bool) (q : Spot) → at_entry test log q ≡ true
+    → (e : Entry) × ((entry_at log q.0 q.1 ≡ Some e) × (test (record { hart = q.0; place = q.1; entry = e }) ≡ true))
 stands_at log test q t = by (entry_at log q.0 q.1) refl t
   where
     by : (o : Option Entry) → entry_at log q.0 q.1 ≡ o → is_some_and o (λ e. test (record { hart = q.0; place = q.1; entry = e })) ≡ true
@@ -117,7 +129,8 @@ wrong_where_found : (log : Log) (p : Spot) → find (misplaced Ordinals log) (sp
 wrong_where_found log p found = false_from_ne_true (ordinals_are_right log) (λ right.
     let least = first_is_least.found log (misplaced Ordinals log) p found in
     let e = stands_at log (is_misplaced Ordinals log) p least.passes in
-    let ok = at_placed (λ x. not (is_misplaced Ordinals log x)) log p.0 p.1 e.0 e.1.0 (sym (ap (λ test. list_all (λ x. not (test x)) (placed log)) (ordinals_misplace log)) ∙ right) in
+    let ok = at_placed (λ x. not (is_misplaced Ordinals log x)) log p.0 p.1 e.0 e.1.0
+    (sym (ap (λ test. list_all (λ x. not (test x)) (placed log)) (ordinals_misplace log)) ∙ right) in
     true≢false (sym ok ∙ ap not e.1.1))
 
 or_false : (b : Bool) → (b || false) ≡ b
@@ -132,13 +145,15 @@ o8_where_wrong log p found = ap (λ test. find (at_entry test log) (spots log)) 
     ∙ ap (λ test. test x) (ordinals_misplace log))) ∙ found
 
 -- else its time alone tells
-pub o8_where_right : (log : Log) (h i k last : ℕ) (e : Entry) → find (misplaced Ordinals log) (spots log) ≡ None → entry_at log h i ≡ Some e → ordinal_of e ≡ Some k → last ≡ time_before log k
+pub o8_where_right : (log : Log) (h i k last : ℕ) (e : Entry) → find (misplaced Ordinals log) (spots log) ≡ None → entry_at log h i ≡ Some e
+    → ordinal_of e ≡ Some k → last ≡ time_before log k
     → o8 log (h, i) ≡ is_some_and (time_of e) (λ time. nat_lt time last)
 o8_where_right log h i k last e none at is same =
     let x : Placed = record { hart = h; place = i; entry = e } in
     let spot : IsSpot log.streams (h, i) = (stream log h, in_stream log h i e at, below_length (stream log h) i e at) in
     let own : is_misnumbered ordinal_of log x ≡ false = ap (λ test. test x) (ordinals_misplace log)
-    ∙ sym (ap (λ o. is_some_and o (λ z. is_misplaced Ordinals log (record { hart = h; place = i; entry = z }))) at) ∙ first_is_least.none log (misplaced Ordinals log) (h, i) none spot in
+    ∙ sym (ap (λ o. is_some_and o (λ z. is_misplaced Ordinals log (record { hart = h; place = i; entry = z }))) at)
+    ∙ first_is_least.none log (misplaced Ordinals log) (h, i) none spot in
     ap (λ o. is_some_and o (λ z. breaks_o8 log (record { hart = h; place = i; entry = z }))) at
     ∙ ap (λ b. b || (ordinals_are_right log && time_falls log e)) own
     ∙ ap (λ b. false || (b && time_falls log e)) (right_where_none log none)
@@ -157,13 +172,17 @@ numbered_where_timed e log t = by (time_of e) t
     by (Some time) t = inner (ordinal_of e) time refl t
 
 -- what breaks O8 has an ordinal
-pub of_an_ordinal : (log : Log) (q : Spot) → find (misplaced Ordinals log) (spots log) ≡ None → o8 log q ≡ true → (e : Entry) × ((k : ℕ) × (entry_at log q.0 q.1 ≡ Some e) × (ordinal_of e ≡ Some k))
+pub of_an_ordinal : (log : Log) (q : Spot) → find (misplaced Ordinals log) (spots log) ≡ None → o8 log q ≡ true
+    → (e : Entry) × ((k : ℕ) × (entry_at log q.0 q.1 ≡ Some e) × (ordinal_of e ≡ Some k))
 of_an_ordinal log q none t =
     let s = stands_at log (breaks_o8 log) q t in
     let x : Placed = record { hart = q.0; place = q.1; entry = s.0 } in
     let spot : IsSpot log.streams q = (stream log q.0, in_stream log q.0 q.1 s.0 s.1.0, below_length (stream log q.0) q.1 s.0 s.1.0) in
     let own : is_misnumbered ordinal_of log x ≡ false = ap (λ test. test x) (ordinals_misplace log)
-    ∙ sym (ap (λ o. is_some_and o (λ z. is_misplaced Ordinals log (record { hart = q.0; place = q.1; entry = z }))) s.1.0) ∙ first_is_least.none log (misplaced Ordinals log) q none spot in
-    let falls : time_falls log s.0 ≡ true = sym (ap (λ b. b || (ordinals_are_right log && time_falls log s.0)) own ∙ ap (λ b. false || (b && time_falls log s.0)) (right_where_none log none)) ∙ s.1.1 in
+    ∙ sym (ap (λ o. is_some_and o (λ z. is_misplaced Ordinals log (record { hart = q.0; place = q.1; entry = z }))) s.1.0)
+    ∙ first_is_least.none log (misplaced Ordinals log) q none spot in
+    let falls : time_falls log s.0 ≡ true =
+    sym (ap (λ b. b || (ordinals_are_right log && time_falls log s.0)) own ∙ ap (λ b. false || (b && time_falls log s.0)) (right_where_none log none))
+    ∙ s.1.1 in
     let k = numbered_where_timed s.0 log falls in
     (s.0, (k.0, s.1.0, k.1))

@@ -5,7 +5,8 @@ use Rattle.std.proofs.lemmas.Bool.{cases_Bool}
 use Rattle.std.proofs.lemmas.Option.{none-some, same_Some, slice_get_within, get_or_from_slice_get}
 use Rattle.std.proofs.lemmas.List.Sums.{count_by_more_yes, count_by_more_no, sum_by-append}
 
-pub one_counted : {X : Type 0} (f : X → Bool) (s : List X) (i : ℕ) (e : X) → slice_get s i ≡ Some e → count_by f (take (i + 1) s) ≡ count_by f (take i s) + cond (f e) 1 0
+pub one_counted : {X : Type 0} (f : X → Bool) (s : List X) (i : ℕ) (e : X) → slice_get s i ≡ Some e
+    → count_by f (take (i + 1) s) ≡ count_by f (take i s) + cond (f e) 1 0
 one_counted f s i e at =
     let l = slice_get_within s i e at in
     let same = get_or_from_slice_get s i e e at in

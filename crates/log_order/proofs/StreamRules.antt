@@ -58,14 +58,19 @@ end_within log keeps h t got = by (last_of t) refl
         let one = (or_parts (is_some_and (slice_get t (length t - 1)) (λ z. falls z || last z)) end k).0 in
         let two : (falls e || last e) ≡ false = sym (ap (λ (o : Option Entry). is_some_and o (λ z. falls z || last z)) is) ∙ one in
         let three = (or_parts (falls e) (last e) two).1 in
-        let four : (not (length t - 1 + 1 == length t) || nat_lt log.limit (count_of e)) ≡ false = sym (ap (λ b. b && (not (length t - 1 + 1 == length t) || nat_lt log.limit (count_of e))) ends) ∙ three in
+        let four : (not (length t - 1 + 1 == length t) || nat_lt log.limit (count_of e)) ≡ false =
+        sym (ap (λ b. b && (not (length t - 1 + 1 == length t) || nat_lt log.limit (count_of e))) ends) ∙ three in
         ltb-false log.limit (count_of e) (or_parts (not (length t - 1 + 1 == length t)) (nat_lt log.limit (count_of e)) four).1
 
     end_stands : is_some_and (last_of t) is_end ≡ true
     end_stands =
         let k = kept (length t) (omega arith) in
-        let one = (or_parts (is_some_and (slice_get t (length t)) (λ z. falls_at t (length t) z || (is_end z && (not (length t + 1 == length t) || nat_lt log.limit (count_of z))))) ((length t == length t) && not (is_some_and (last_of t) is_end)) k).1 in
-        let two : not (is_some_and (last_of t) is_end) ≡ false = sym (ap (λ b. b && not (is_some_and (last_of t) is_end)) (eq-eqb (length t) (length t) refl)) ∙ one in
+        let one = (or_parts
+        (is_some_and (slice_get t (length t))
+        (λ z. falls_at t (length t) z || (is_end z && (not (length t + 1 == length t) || nat_lt log.limit (count_of z)))))
+        ((length t == length t) && not (is_some_and (last_of t) is_end)) k).1 in
+        let two : not (is_some_and (last_of t) is_end) ≡ false =
+        sym (ap (λ b. b && not (is_some_and (last_of t) is_end)) (eq-eqb (length t) (length t) refl)) ∙ one in
         not-false (is_some_and (last_of t) is_end) two
 
     by : (o : Option Entry) → last_of t ≡ o → end_count t ≤ log.limit

@@ -17,7 +17,8 @@ use Rattle.log_order.specs.Least.{IsNumberedBelow}
 pub row_is : (rows : List (List (Option Leg))) (page : ℕ) (row : List (Option Leg)) → page < length rows → row ≡ get_or rows page row → row_of rows page ≡ row
 row_is rows page row l is = get_or_from_slice_get rows page row [] (slice_get_read rows (length rows) page row refl l is)
 
-pub ended : (rows : List (List (Option Leg))) (page k size : ℕ) (row : List (Option Leg)) → row_of rows page ≡ row → size ≡ length row → k ≤ size → size ≤ k → length (row_of rows page) ≡ k
+pub ended : (rows : List (List (Option Leg))) (page k size : ℕ) (row : List (Option Leg)) → row_of rows page ≡ row → size ≡ length row → k ≤ size → size ≤ k
+    → length (row_of rows page) ≡ k
 ended rows page k size row is same a b = (let e = ap length is in omega (arith, e, same, a, b))
 
 pub none_at_first : (series : Series) (log : Log) (q : Spot) → IsNumberedBelow series log 0 0 q → ⊥
@@ -47,13 +48,16 @@ split n page k below = elim below [
 ]
 
 module _ (series : Series) (log : Log) (rows : List (List (Option Leg))) (filled : AreFilled series log (length log.streams) 0 rows) where
-  its_slot : (q : Spot) (e : Entry) (n : ℕ × ℕ) → entry_at log q.0 q.1 ≡ Some e → key_of series e ≡ Some n → slot rows n ≡ Some (record { hart = q.0; entry = q.1 })
-  its_slot q e n at key = filled.stands (record { hart = q.0; entry = q.1 }) e n (inl (slice_get_within log.streams q.0 (stream log q.0) (in_stream log q.0 q.1 e at))) at key
+  its_slot : (q : Spot) (e : Entry) (n : ℕ × ℕ) → entry_at log q.0 q.1 ≡ Some e → key_of series e ≡ Some n
+      → slot rows n ≡ Some (record { hart = q.0; entry = q.1 })
+  its_slot q e n at key =
+      filled.stands (record { hart = q.0; entry = q.1 }) e n (inl (slice_get_within log.streams q.0 (stream log q.0) (in_stream log q.0 q.1 e at))) at key
 
   slot_here : (n : ℕ × ℕ) (page k : ℕ) → n.0 ≡ page → n.1 ≡ k → slot rows n ≡ slot rows (page, k)
   slot_here n page k a b = ap (λ (g : ℕ). slot rows (g, n.1)) a ∙ ap (λ (j : ℕ). slot rows (page, j)) b
 
-  pub seen_next : (page k : ℕ) (leg : Leg) → slot rows (page, k) ≡ Some leg → (q : Spot) → IsNumberedBelow series log page (k + 1) q → IsNumberedBelow series log page k q ⊎ (q ≡ spot_of leg)
+  pub seen_next : (page k : ℕ) (leg : Leg) → slot rows (page, k) ≡ Some leg → (q : Spot) → IsNumberedBelow series log page (k + 1) q
+      → IsNumberedBelow series log page k q ⊎ (q ≡ spot_of leg)
   seen_next page k leg is q seen = elim (split seen.1.0 page k seen.1.3) [
     | inl b ↦ inl (seen.0, (seen.1.0, seen.1.1, seen.1.2, b))
     | inr b ↦ inr (ap spot_of (same_Some _ _ (sym (its_slot q seen.0 seen.1.0 seen.1.1 seen.1.2) ∙ slot_here seen.1.0 page k b.0 b.1 ∙ is)))

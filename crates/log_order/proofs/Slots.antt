@@ -34,12 +34,14 @@ get_set_other (x ∷ xs) (suc i) (suc j) y ne = get_set_other xs i j y (λ e. ne
 abbrev with_one : List (List (Option Leg)) → ℕ × ℕ → Leg → List (List (Option Leg))
 with_one rows n leg = slice_set rows n.0 (slice_set (row_of rows n.0) n.1 (Some leg))
 
-slot_same : (rows : List (List (Option Leg))) (n : ℕ × ℕ) (leg : Leg) → n.0 < length rows → n.1 < length (row_of rows n.0) → slot (with_one rows n leg) n ≡ Some leg
+slot_same : (rows : List (List (Option Leg))) (n : ℕ × ℕ) (leg : Leg) → n.0 < length rows → n.1 < length (row_of rows n.0)
+    → slot (with_one rows n leg) n ≡ Some leg
 slot_same rows n leg l m =
     ap (λ row. slot_in row n.1) (get_or-set_same rows n.0 (slice_set (row_of rows n.0) n.1 (Some leg)) [] l)
     ∙ ap (option_and_then (λ o. o)) (get_set_same (row_of rows n.0) n.1 (Some leg) m)
 
-slot_other : (rows : List (List (Option Leg))) (n m : ℕ × ℕ) (leg : Leg) → n.0 < length rows → ((m.0 ≡ n.0) → (m.1 ≡ n.1) → ⊥) → slot (with_one rows n leg) m ≡ slot rows m
+slot_other : (rows : List (List (Option Leg))) (n m : ℕ × ℕ) (leg : Leg) → n.0 < length rows → ((m.0 ≡ n.0) → (m.1 ≡ n.1) → ⊥)
+    → slot (with_one rows n leg) m ≡ slot rows m
 slot_other rows n m leg l ne = elim (cases_eq m.0 n.0) [
   | inl same ↦
       let row : row_of (with_one rows n leg) m.0 ≡ slice_set (row_of rows m.0) n.1 (Some leg) =
@@ -50,7 +52,8 @@ slot_other rows n m leg l ne = elim (cases_eq m.0 n.0) [
 ]
 
 has : (series : Series) (n : ℕ × ℕ) (e : Entry) → key_of series e ≡ Some n → has_key series n e ≡ true
-has series n e is = ap (λ o. is_some_and o (λ x. (x.0 == n.0) && (x.1 == n.1))) is ∙ and_from (n.0 == n.0) (n.1 == n.1) (eq-eqb n.0 n.0 refl) (eq-eqb n.1 n.1 refl)
+has series n e is =
+    ap (λ o. is_some_and o (λ x. (x.0 == n.0) && (x.1 == n.1))) is ∙ and_from (n.0 == n.0) (n.1 == n.1) (eq-eqb n.0 n.0 refl) (eq-eqb n.1 n.1 refl)
 
 has_it : (series : Series) (n : ℕ × ℕ) (e : Entry) → has_key series n e ≡ true → key_of series e ≡ Some n
 has_it series n e t = by (key_of series e) refl
@@ -91,7 +94,8 @@ same_tests size k b = elim (cases_lt k size) [
     twice false = refl
 
 -- an entry is misplaced exactly where its slot isn't free
-pub misplaced_where : (series : Series) (log : Log) (h i : ℕ) (rows : List (List (Option Leg))) (e : Entry) → AreFilled series log h i rows → RowsBelow series log (length rows) → entry_at log h i ≡ Some e
+pub misplaced_where : (series : Series) (log : Log) (h i : ℕ) (rows : List (List (Option Leg))) (e : Entry) → AreFilled series log h i rows
+    → RowsBelow series log (length rows) → entry_at log h i ≡ Some e
     → misplaced series log (h, i) ≡ not (is_free rows (key_of series e))
 misplaced_where series log h i rows e filled below at =
     ap (λ o. is_some_and o (λ z. is_misplaced series log (record { hart = h; place = i; entry = z }))) at ∙ by (key_of series e) refl
@@ -100,9 +104,13 @@ misplaced_where series log h i rows e filled below at =
     test n = nat_le (size_of_row series log n.0) n.1 || list_any (has_key series n) (earlier log (record { hart = h; place = i; entry = e }))
 
     by : (o : Option (ℕ × ℕ)) → key_of series e ≡ o → is_misplaced series log (record { hart = h; place = i; entry = e }) ≡ not (is_free rows (key_of series e))
-    by None is = ap (λ o. is_some_and o (λ n. nat_le (size_of_row series log n.0) n.1 || list_any (has_key series n) (earlier log (record { hart = h; place = i; entry = e })))) is ∙ ap (λ o. not (is_free rows o)) (sym is)
+    by None is =
+        ap (λ o. is_some_and o
+        (λ n. nat_le (size_of_row series log n.0) n.1 || list_any (has_key series n) (earlier log (record { hart = h; place = i; entry = e })))) is
+        ∙ ap (λ o. not (is_free rows o)) (sym is)
     by (Some n) is =
-        ap (λ o. is_some_and o (λ n. nat_le (size_of_row series log n.0) n.1 || list_any (has_key series n) (earlier log (record { hart = h; place = i; entry = e })))) is
+        ap (λ o. is_some_and o
+        (λ n. nat_le (size_of_row series log n.0) n.1 || list_any (has_key series n) (earlier log (record { hart = h; place = i; entry = e })))) is
         ∙ ap (λ b. nat_le (size_of_row series log n.0) n.1 || b) (stands_earlier series log h i rows e n filled)
         ∙ same_tests (size_of_row series log n.0) n.1 (is_some (slot rows n))
         ∙ ap (λ size. not (nat_lt n.1 size && not (is_some (slot rows n)))) (sym (filled.sizes n.0 (below h i e n at is)))
@@ -140,11 +148,13 @@ first_key None n is = absurd (none-some n is)
 first_key (Some k) n is = sym (ap (λ (z : ℕ × ℕ). z.0) (same_Some _ _ is))
 
 -- each entry has a row
-pub rows_below : (series : Series) (log : Log) (h i : ℕ) (rows : List (List (Option Leg))) → IsSmall log → AreFilled series log h i rows → RowsBelow series log (length rows)
+pub rows_below : (series : Series) (log : Log) (h i : ℕ) (rows : List (List (Option Leg))) → IsSmall log → AreFilled series log h i rows
+    → RowsBelow series log (length rows)
 rows_below Pages log h i rows small filled = λ g j e n at is. (let l = small.pages g j e n at is in let w = filled.width in omega (arith, l, w))
 rows_below Ordinals log h i rows small filled = λ g j e n at is. (let z = first_key (ordinal_of e) n is in let w = filled.width in omega (arith, z, w))
 
-row_size : (rows : List (List (Option Leg))) (n : ℕ × ℕ) (leg : Leg) (g : ℕ) → n.0 < length rows → length (row_of (with_one rows n leg) g) ≡ length (row_of rows g)
+row_size : (rows : List (List (Option Leg))) (n : ℕ × ℕ) (leg : Leg) (g : ℕ) → n.0 < length rows
+    → length (row_of (with_one rows n leg) g) ≡ length (row_of rows g)
 row_size rows n leg g l = elim (cases_eq g n.0) [
   | inl same ↦ ap (λ (k : ℕ). length (row_of (with_one rows n leg) k)) same
       ∙ ap length (get_or-set_same rows n.0 (slice_set (row_of rows n.0) n.1 (Some leg)) [] l)
@@ -158,10 +168,13 @@ nothing_there None x e is = none-some x is
 nothing_there (Some y) x e is = true≢false e
 
 whole_leg : (p : Leg) (h i : ℕ) → p.hart ≡ h → p.entry ≡ i → record { hart = h; entry = i } ≡ p
-whole_leg p h i a b = ap (λ (k : ℕ). (let l : Leg = record { hart = k; entry = i } in l)) (sym a) ∙ ap (λ (k : ℕ). (let l : Leg = record { hart = p.hart; entry = k } in l)) (sym b)
+whole_leg p h i a b =
+    ap (λ (k : ℕ). (let l : Leg = record { hart = k; entry = i } in l)) (sym a)
+    ∙ ap (λ (k : ℕ). (let l : Leg = record { hart = p.hart; entry = k } in l)) (sym b)
 
 -- one more entry stands in its slot
-pub one_filled : (series : Series) (log : Log) (h i : ℕ) (rows : List (List (Option Leg))) (e : Entry) → AreFilled series log h i rows → RowsBelow series log (length rows) → entry_at log h i ≡ Some e
+pub one_filled : (series : Series) (log : Log) (h i : ℕ) (rows : List (List (Option Leg))) (e : Entry) → AreFilled series log h i rows
+    → RowsBelow series log (length rows) → entry_at log h i ≡ Some e
     → is_free rows (key_of series e) ≡ true → AreFilled series log h (i + 1) (with_leg rows (key_of series e) (record { hart = h; entry = i }))
 one_filled series log h i rows e filled below at free = by (key_of series e) refl
   where
@@ -187,7 +200,8 @@ one_filled series log h i rows e filled below at free = by (key_of series e) ref
         let empty = not-true (is_some (slot rows n)) both.1 in
         record {
           width = length-set rows n.0 (slice_set (row_of rows n.0) n.1 (Some leg)) ∙ filled.width;
-          sizes = λ g l. row_size rows n leg g wide ∙ filled.sizes g (subst (λ (z : ℕ). g < z) (length-set rows n.0 (slice_set (row_of rows n.0) n.1 (Some leg))) l);
+          sizes = λ g l. row_size rows n leg g wide
+              ∙ filled.sizes g (subst (λ (z : ℕ). g < z) (length-set rows n.0 (slice_set (row_of rows n.0) n.1 (Some leg))) l);
           stands = λ p x m before there key. elim (up_to (spot_of p) h i before) [
             | inl b ↦ elim (same_pair m n) [
               | inl same ↦ absurd (nothing_there (slot rows n) p empty (ap (slot rows) (sym same) ∙ filled.stands p x m b there key))
@@ -211,7 +225,8 @@ one_filled series log h i rows e filled below at free = by (key_of series e) ref
     by (Some n) is = subst (λ o. AreFilled series log h (i + 1) (with_leg rows o leg)) (sym is) (something n is (sym (ap (is_free rows) is) ∙ free))
 
 -- a stream is over, and the next begins
-pub stream_filled : (series : Series) (log : Log) (h : ℕ) (t : List Entry) (rows : List (List (Option Leg))) → slice_get log.streams h ≡ Some t → AreFilled series log h (length t) rows → AreFilled series log (h + 1) 0 rows
+pub stream_filled : (series : Series) (log : Log) (h : ℕ) (t : List Entry) (rows : List (List (Option Leg))) → slice_get log.streams h ≡ Some t
+    → AreFilled series log h (length t) rows → AreFilled series log (h + 1) 0 rows
 stream_filled series log h t rows got filled = record {
   width = filled.width;
   sizes = filled.sizes;
@@ -220,7 +235,8 @@ stream_filled series log h t rows got filled = record {
 }
   where
     within : (p : Leg) (x : Entry) → p.hart ≡ h → entry_at log p.hart p.entry ≡ Some x → p.entry < length t
-    within p x same there = slice_get_within t p.entry x (sym (ap (λ o. slice_get (unwrap_or o []) p.entry) got) ∙ ap (λ (g : ℕ). entry_at log g p.entry) (sym same) ∙ there)
+    within p x same there =
+        slice_get_within t p.entry x (sym (ap (λ o. slice_get (unwrap_or o []) p.entry) got) ∙ ap (λ (g : ℕ). entry_at log g p.entry) (sym same) ∙ there)
 
     back : (p : Leg) (x : Entry) → IsBefore (spot_of p) (h + 1, 0) → entry_at log p.hart p.entry ≡ Some x → IsBefore (spot_of p) (h, length t)
     back p x before there = elim before [
@@ -250,13 +266,15 @@ empty_row counts n = by counts n.0
     by (size ∷ counts) zero = no_slot size n.1
     by (size ∷ counts) (suc g) = by counts g
 
-row_length : (counts : List ℕ) (g : ℕ) → g < length counts → length (row_of (map (λ (size : ℕ). replicate {A = Option Leg} size None) counts) g) ≡ slice_index counts g
+row_length : (counts : List ℕ) (g : ℕ) → g < length counts
+    → length (row_of (map (λ (size : ℕ). replicate {A = Option Leg} size None) counts) g) ≡ slice_index counts g
 row_length [] g l = absurd (omega (arith, l))
 row_length (size ∷ counts) zero l = length-replicate size None
 row_length (size ∷ counts) (suc g) l = row_length counts g (omega (arith, l))
 
 -- at first nothing stands anywhere
-pub none_filled : (series : Series) (log : Log) (counts : List ℕ) → length counts ≡ width_of series log → ((g : ℕ) → slice_index counts g ≡ size_of_row series log g) → AreFilled series log 0 0 (map (λ size. replicate size None) counts)
+pub none_filled : (series : Series) (log : Log) (counts : List ℕ) → length counts ≡ width_of series log
+    → ((g : ℕ) → slice_index counts g ≡ size_of_row series log g) → AreFilled series log 0 0 (map (λ size. replicate size None) counts)
 none_filled series log counts width sizes = record {
   width = length-map counts (λ size. replicate size None) ∙ width;
   sizes = λ g l. row_length counts g (subst (λ (z : ℕ). g < z) (length-map counts (λ size. replicate size None)) l) ∙ sizes g;
@@ -268,4 +286,6 @@ none_filled series log counts width sizes = record {
 }
 
 pub misplaced_past : (series : Series) (log : Log) (h : ℕ) → misplaced series log (h, length (stream log h)) ≡ false
-misplaced_past series log h = ap (λ o. is_some_and o (λ e. is_misplaced series log (record { hart = h; place = length (stream log h); entry = e }))) (slice_get_past (stream log h) (length (stream log h)) (omega arith))
+misplaced_past series log h =
+    ap (λ o. is_some_and o (λ e. is_misplaced series log (record { hart = h; place = length (stream log h); entry = e })))
+    (slice_get_past (stream log h) (length (stream log h)) (omega arith))
