@@ -1,5 +1,7 @@
 -- The items of a recording are those of its log, in their order.
-use Rattle.std.proofs.Common.{IsSomeAnd, ◌≡◌, ◌≢◌, ℕ, ◌+◌, ◌<◌, ◌≤◌, ◌==◌, Bool, true, false, not, ◌⊎◌, List, [], ◌∷◌, ◌++◌, length, map, Option, Some, None, slice_get, slice_index, refl, sym, ap, ap₂, ◌∙◌, subst, inl, inr, ⊎_elim, arith, if◌then◌else◌, append_assoc, append-nil, unwrap_or}
+use Rattle.std.proofs.Common.{IsSomeAnd, ◌≡◌, ◌≢◌, ℕ, ◌+◌, ◌<◌, ◌≤◌, ◌==◌, Bool, true, false, not, ◌⊎◌, List, [], ◌∷◌, ◌++◌, length, map, Option, Some, None}
+use Rattle.std.proofs.Common.{slice_get, slice_index, refl, sym, ap, ap₂, ◌∙◌, subst, inl, inr, ⊎_elim, arith, if◌then◌else◌, append_assoc, append-nil}
+use Rattle.std.proofs.Common.{unwrap_or}
 use Rattle.std.specs.List.{enumerate_from}
 use Rattle.std.specs.Option.{option_map}
 use Rattle.std.proofs.lemmas.List.FromFn.{length-enumerate_from}
@@ -18,7 +20,8 @@ use Rattle.log_entry.specs.Parts.{count_of, is_end}
 use Rattle.order_rules.specs.Cursor.{first_left}
 use Rattle.replay_model.specs.Flat.{Flat}
 use Rattle.replay_model.specs.State.{Replay}
-use Rattle.replay_model.specs.Items.{Item, Ended, Move, Makes, Verdict, HasEnded, Holds, CanGo, HasDiverged, item_at, verdict_on, made, told_of, goes, next_item, verdict, step}
+use Rattle.replay_model.specs.Items.{Item, Ended, Move, Makes, Verdict, HasEnded, Holds, CanGo, HasDiverged, item_at, verdict_on, made, told_of, goes}
+use Rattle.replay_model.specs.Items.{next_item, verdict, step}
 use Rattle.replay_model.specs.Journal.{Throughout}
 use Rattle.replay_model.specs.Outcome.{is_ended, all_ended}
 use Rattle.crew_recording.specs.Recording.{Recording, IsSteady, IsRecorded, Records, Stands, with_item, stream_in, log_of_recording}

@@ -1,5 +1,6 @@
 -- The log of an ordered recording keeps the rules on single streams, on numbers, and on ordinals and times.
-use Rattle.std.proofs.Common.{◌≡◌, ◌⊎◌, ℕ, zero, suc, ◌<◌, ◌≤◌, ◌==◌, not, Bool, true, false, List, [], ◌∷◌, ◌++◌, length, find, Option, Some, None, slice_get, slice_index, is_some, unwrap_or, refl, sym, ap, ◌∙◌, subst, inl, inr, ⊎_elim, arith, true≢false}
+use Rattle.std.proofs.Common.{◌≡◌, ◌⊎◌, ℕ, zero, suc, ◌<◌, ◌≤◌, ◌==◌, not, Bool, true, false, List, [], ◌∷◌, ◌++◌, length, find, Option, Some, None, slice_get}
+use Rattle.std.proofs.Common.{slice_index, is_some, unwrap_or, refl, sym, ap, ◌∙◌, subst, inl, inr, ⊎_elim, arith, true≢false}
 use Rattle.std.specs.List.{enumerate_from}
 use Rattle.std.specs.Option.{option_and_then}
 use Rattle.std.proofs.lemmas.Option.{none-some, slice_get_within}
@@ -14,7 +15,8 @@ use Rattle.log_entry.specs.declared.log.Entry.TheVariants as entries
 use Rattle.log_entry.specs.declared.log.Log.{Log}
 use Rattle.log_entry.specs.Parts.{is_end, page_number, ordinal_of, time_of, is_some_and}
 use Rattle.order_rules.specs.Places.{Placed, stream, entry_at, number_on, is_number}
-use Rattle.order_rules.specs.Rules.{breaks_o1, breaks_o2, breaks_o3, breaks_o4, breaks_o5, breaks_o8, is_misnumbered, with_ordinal, time_before, ordinals_are_right}
+use Rattle.order_rules.specs.Rules.{breaks_o1, breaks_o2, breaks_o3, breaks_o4, breaks_o5, breaks_o8, is_misnumbered, with_ordinal, time_before}
+use Rattle.order_rules.specs.Rules.{ordinals_are_right}
 use Rattle.order_rules.specs.Orderly.{Spot, spots, at_entry, Keeps, o1, o2, o3, o4, o5, o8}
 use Rattle.order_rules.proofs.Least.{first_is_least}
 use Rattle.replay_model.specs.Flat.{Flat}

@@ -15,7 +15,7 @@ pub record IsBoard (harts : ℕ) (s : FlatState) : Type 0 where
   pub harts_size : length s.harts ≡ harts
   pub counts_size : length s.counts ≡ harts
 
--- the order that names each item's hart obeys the log, leads to the recorded state, and is full, with whatever cause the run ended;
+-- whatever the unit, the order that names each item's hart obeys the log, leads to the recorded state, and is full, with whatever cause the run ended;
 -- and every hart has ended there
 abbrev pub RunsAreObeyed : Type 0
 RunsAreObeyed = (unit pages limit harts : ℕ) (image : List ℕ) (cause : Cause) (first : FlatState) (items : List (ℕ × Item)) (r : Recording FlatState)

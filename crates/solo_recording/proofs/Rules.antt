@@ -1,5 +1,7 @@
 -- A stream whose entries fit is the stream of an orderly log, but for who holds what.
-use Rattle.std.proofs.Common.{◌≡◌, ◌⊎◌, ℕ, zero, suc, ◌+◌, ◌-◌, ◌*◌, ◌/◌, ◌%◌, ◌<◌, ◌≤◌, ◌==◌, ◌&&◌, ◌||◌, not, nat_lt, nat_le, Bool, true, false, List, [], ◌∷◌, ◌++◌, length, take, map, find, Option, Some, None, slice_get, count_by, is_some, refl, sym, ap, ap₂, ◌∙◌, subst, inl, inr, ⊎_elim, arith, if◌then◌else◌, true≢false, unwrap_or, cond, append-nil}
+use Rattle.std.proofs.Common.{◌≡◌, ◌⊎◌, ℕ, zero, suc, ◌+◌, ◌-◌, ◌*◌, ◌/◌, ◌%◌, ◌<◌, ◌≤◌, ◌==◌, ◌&&◌, ◌||◌, not, nat_lt, nat_le, Bool, true, false, List, []}
+use Rattle.std.proofs.Common.{◌∷◌, ◌++◌, length, take, map, find, Option, Some, None, slice_get, count_by, is_some, refl, sym, ap, ap₂, ◌∙◌, subst, inl, inr}
+use Rattle.std.proofs.Common.{⊎_elim, arith, if◌then◌else◌, true≢false, unwrap_or, cond, append-nil}
 use Rattle.std.specs.Option.{option_and_then, option_map_or}
 use Rattle.std.proofs.lemmas.Option.{none-some, same_Some}
 use Rattle.std.proofs.lemmas.Bool.{eqb-true, eq-eqb, ne_eqb, and_right, le-ltb, lt-leb, lt-ltb, or_from}
@@ -15,7 +17,9 @@ use Rattle.log_entry.specs.declared.log.Entry.TheVariants as entries
 use Rattle.log_entry.specs.declared.log.Log.{Log}
 use Rattle.log_entry.specs.Parts.{count_of, is_end, is_poll, is_touch, page_number, ordinal_of, time_of, is_some_and}
 use Rattle.order_rules.specs.Places.{Placed, previous, number_on, is_number, numbered}
-use Rattle.order_rules.specs.Rules.{breaks_o1, breaks_o2, breaks_o3, breaks_o4, breaks_o5, breaks_o6, breaks_o7, breaks_o8, last_of, end_count, may_poll, polls_due, has_poll, is_first_above, is_misnumbered, waits_due, waits_after, same_wait, with_ordinal, time_before, ordinals_are_right}
+use Rattle.order_rules.specs.Rules.{breaks_o1, breaks_o2, breaks_o3, breaks_o4, breaks_o5, breaks_o6, breaks_o7, breaks_o8, last_of, end_count, may_poll}
+use Rattle.order_rules.specs.Rules.{polls_due, has_poll, is_first_above, is_misnumbered, waits_due, waits_after, same_wait, with_ordinal, time_before}
+use Rattle.order_rules.specs.Rules.{ordinals_are_right}
 use Rattle.order_rules.specs.Orderly.{Spot, spots, at_entry, Keeps, o1, o2, o3, o4, o5, o6, o7, o8}
 use Rattle.order_rules.specs.Laws.{IsSpot}
 use Rattle.order_rules.proofs.Least.{first_is_least}

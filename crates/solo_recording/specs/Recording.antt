@@ -1,5 +1,5 @@
 -- What one hart records: items made one after another, and the entries that they leave in its stream (docs/recorder.md).
-use Rattle.std.specs.Prelude.{false, ℕ, ◌≡◌, ◌≢◌, ◌+◌, ◌%◌, ◌<◌, ◌≤◌, List, [], ◌∷◌, ◌++◌, slice_get, Some, length, replicate}
+use Rattle.std.specs.Prelude.{false, ℕ, ◌≡◌, ◌≢◌, ◌+◌, ◌%◌, ◌<◌, ◌≤◌, List, [], ◌∷◌, ◌++◌, slice_get, Some, length}
 use Rattle.rv_words.specs.declared.shared.Cause.{Cause}
 use Rattle.log_entry.specs.declared.log.Entry.{Entry}
 use Rattle.log_entry.specs.declared.log.Entry.TheVariants as entries
@@ -7,12 +7,13 @@ use Rattle.log_entry.specs.declared.log.Log.{Log}
 use Rattle.log_entry.specs.Parts.{count_of}
 use Rattle.rv_words.specs.Limits.{poll_distance}
 use Rattle.crew_recording.specs.Allowed.{IsPolled}
+use Rattle.crew_recording.specs.Recording.{with_ends}
+use Rattle.crew_recording.specs.Recording as crew
 use Rattle.rv_words.specs.declared.shared.Input.{Input}
 use Rattle.rv_words.specs.declared.shared.Input.TheVariants.{Time}
 use Rattle.replay_model.specs.Flat.{Flat}
 use Rattle.flat_machine.specs.declared.act.Act.{Act}
 use Rattle.flat_machine.specs.declared.act.Act.TheVariants.{Run, Touch, Poll}
-use Rattle.order_rules.specs.Holders.{nobody}
 use Rattle.replay_model.specs.State.{Replay, want}
 use Rattle.replay_model.specs.Items.{Item, Ended, Move, Makes, CanGo, verdict_on, made}
 
@@ -73,15 +74,11 @@ module _ {S V : Type 0} (flat : Flat S V) (limit : ℕ) where
 -- the log of one hart that ended at a count
 abbrev pub solo_log : ℕ → ℕ → List ℕ → Cause → List Entry → ℕ → Log
 solo_log pages limit image cause stream count =
-    record { pages = pages; limit = limit; image = image; streams = (stream ++ entries.End count ∷ []) ∷ []; cause = cause }
+    record { pages = pages; limit = limit; image = image; streams = with_ends (λ h. count) (stream ∷ []); cause = cause }
 
 -- where a recording begins: nothing is held, and nothing was recorded
 abbrev pub first_recording : {S : Type 0} → ℕ → S → SoloRecording S
-first_recording pages first =
-    record {
-      at = record { flat = first; cursor = record { places = 0 ∷ []; numbers = replicate pages 0; ordinal = 0 }; holders = nobody pages 1 };
-      stream = [];
-    }
+first_recording pages first = record { at = (crew.first_recording pages 1 first).at; stream = [] }
 
 -- the log of a recording
 abbrev pub log_of_recording : {S V : Type 0} → Flat S V → ℕ → ℕ → List ℕ → Cause → SoloRecording S → Log
