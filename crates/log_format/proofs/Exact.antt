@@ -74,13 +74,28 @@ pub record IsWide (w : Width) (limit : ℕ) : Type 0 where
   pub below : (bytes : List ℕ) → IsBytes bytes → from_le_bytes w bytes < limit
 
 pub wide16 : IsWide w16 (2 ^ 16)
-wide16 = record { len = λ n. refl; back = λ bytes len fits. le_bytes_2 bytes _ len fits refl; again = from_le_bytes-to_le_bytes_2; below = λ bytes fits. omega (arith, fits 0, fits 1) }
+wide16 = record {
+  len = λ n. refl;
+  back = λ bytes len fits. le_bytes_2 bytes _ len fits refl;
+  again = from_le_bytes-to_le_bytes_2;
+  below = λ bytes fits. omega (arith, fits 0, fits 1);
+}
 
 pub wide32 : IsWide w32 (2 ^ 32)
-wide32 = record { len = λ n. refl; back = λ bytes len fits. le_bytes_4 bytes _ len fits refl; again = from_le_bytes-to_le_bytes_4; below = λ bytes fits. omega (arith, fits 0, fits 1, fits 2, fits 3) }
+wide32 = record {
+  len = λ n. refl;
+  back = λ bytes len fits. le_bytes_4 bytes _ len fits refl;
+  again = from_le_bytes-to_le_bytes_4;
+  below = λ bytes fits. omega (arith, fits 0, fits 1, fits 2, fits 3);
+}
 
 pub wide64 : IsWide w64 (2 ^ 64)
-wide64 = record { len = λ n. refl; back = λ bytes len fits. le_bytes_8 bytes _ len fits refl; again = from_le_bytes-to_le_bytes_8; below = λ bytes fits. omega (arith, fits 0, fits 1, fits 2, fits 3, fits 4, fits 5, fits 6, fits 7) }
+wide64 = record {
+  len = λ n. refl;
+  back = λ bytes len fits. le_bytes_8 bytes _ len fits refl;
+  again = from_le_bytes-to_le_bytes_8;
+  below = λ bytes fits. omega (arith, fits 0, fits 1, fits 2, fits 3, fits 4, fits 5, fits 6, fits 7);
+}
 
 small : (n : ℕ) → n < 256 → n % 256 ≡ n
 small n h = grind arith
@@ -93,7 +108,8 @@ one_byte (b ∷ c ∷ bs) len fits = absurd (omega (arith, len))
 pub wide8 : IsWide w8 (2 ^ 8)
 wide8 = record { len = λ n. refl; back = one_byte; again = small; below = λ bytes fits. omega (arith, fits 0) }
 
-number_blames : {X : Type 0} (w : Width) (rule : ℕ) (good short : Bool) (bytes : List ℕ) (x : X) (bad : Bad) → cond short (failed (length bytes, 1)) (cond good (Ok x) (Err (length bytes, rule))) ≡ Err bad → bad.0 ≤ length bytes
+number_blames : {X : Type 0} (w : Width) (rule : ℕ) (good short : Bool) (bytes : List ℕ) (x : X) (bad : Bad)
+    → cond short (failed (length bytes, 1)) (cond good (Ok x) (Err (length bytes, rule))) ≡ Err bad → bad.0 ≤ length bytes
 number_blames {X = X} w rule good true bytes x bad e = let h = err_is {B = X} (length bytes, 1) bad e in omega (arith, ap (λ (z : Bad). z.0) h)
 number_blames {X = X} w rule true false bytes x bad e = absurd cc
 number_blames {X = X} w rule false false bytes x bad e = let h = err_is {B = X} (length bytes, rule) bad e in omega (arith, ap (λ (z : Bad). z.0) h)
@@ -109,7 +125,8 @@ number-exact w limit rule ok wide = record {
       let g = guard_ok (ltb (length bytes) (byte_len w)) (length bytes, 1) (cond (ok n) (Ok (n, drop (byte_len w) bytes)) (Err (length bytes, rule))) x e in
       let h = guard_ended (ok n) (length bytes, rule) (n, drop (byte_len w) bytes) x g.1 in
       let long : byte_len w ≤ length bytes = ltb-false _ _ g.0 in
-      let front : to_le_bytes w n ≡ take (byte_len w) bytes = wide.back (take (byte_len w) bytes) (omega (arith, length-take (byte_len w) bytes)) (IsBytes-take (byte_len w) bytes fits) in
+      let front : to_le_bytes w n ≡ take (byte_len w) bytes =
+      wide.back (take (byte_len w) bytes) (omega (arith, length-take (byte_len w) bytes)) (IsBytes-take (byte_len w) bytes fits) in
       let made : Reads (number w limit rule ok) bytes (n, drop (byte_len w) bytes) = record {
         parts = rw front (sym (take-append-drop (byte_len w) bytes));
         rest_fits = IsBytes-drop (byte_len w) bytes fits;
@@ -120,7 +137,8 @@ number-exact w limit rule ok wide = record {
       let len = wide.len n in
       let long : ltb (length (to_le_bytes w n ++ rest)) (byte_len w) ≡ false = le-ltb _ _ (omega (arith, length-append (to_le_bytes w n) rest)) in
       rw (long, take_at (to_le_bytes w n) rest (byte_len w) len, drop_at (to_le_bytes w n) rest (byte_len w) len, wide.again n fits.0, fits.1) refl;
-  blames = λ bytes bad fits e. number_blames w rule (ok (from_le_bytes w (take (byte_len w) bytes))) (ltb (length bytes) (byte_len w)) bytes (from_le_bytes w (take (byte_len w) bytes), drop (byte_len w) bytes) bad e;
+  blames = λ bytes bad fits e. number_blames w rule (ok (from_le_bytes w (take (byte_len w) bytes))) (ltb (length bytes) (byte_len w)) bytes
+      (from_le_bytes w (take (byte_len w) bytes), drop (byte_len w) bytes) bad e;
 }
 
 pub block-exact : (size : ℕ) → IsExact (block size)
@@ -179,7 +197,8 @@ bind-exact f g p q = record {
       ];
 }
 
-pub as_value-exact : {A B : Type 0} (to : A → B) (from : B → A) (f : Format A) → IsExact f → ((a : A) → f.Fits a → from (to a) ≡ a) → IsExact (as_value to from f)
+pub as_value-exact : {A B : Type 0} (to : A → B) (from : B → A) (f : Format A) → IsExact f → ((a : A) → f.Fits a → from (to a) ≡ a)
+    → IsExact (as_value to from f)
 as_value-exact to from f p back = record {
   takes = λ bytes x fits e.
       let a = bind_ok (f.read bytes) (λ a. Ok (to a.0, a.1)) x e in
@@ -199,7 +218,8 @@ as_value-exact to from f p back = record {
       ];
 }
 
-pub tagged-exact : {T B : Type 0} (f : Format T) (g : T → Format B) (tag_of : B → T) → IsExact f → ((t : T) → f.Fits t → IsExact (g t)) → ((t : T) (b : B) → f.Fits t → (g t).Fits b → tag_of b ≡ t) → IsExact (tagged f g tag_of)
+pub tagged-exact : {T B : Type 0} (f : Format T) (g : T → Format B) (tag_of : B → T) → IsExact f → ((t : T) → f.Fits t → IsExact (g t))
+    → ((t : T) (b : B) → f.Fits t → (g t).Fits b → tag_of b ≡ t) → IsExact (tagged f g tag_of)
 tagged-exact f g tag_of p q tags = record {
   takes = λ bytes x fits e.
       let t = bind_ok (f.read bytes) (λ t. (g t.0).read t.1) x e in
@@ -224,27 +244,33 @@ tagged-exact f g tag_of p q tags = record {
       ];
 }
 
-repeat-takes : {A : Type 0} (f : Format A) → IsExact f → (n : ℕ) (bytes : List ℕ) (x : List A × List ℕ) → IsBytes bytes → repeat_at f.read n bytes ≡ Ok x → Reads (repeat n f) bytes x
-repeat-takes f p zero bytes x fits e = subst (λ y. Reads (repeat zero f) bytes y) (ok_is ([], bytes) x e) (record { parts = refl; rest_fits = fits; fits = (refl, tt) })
+repeat-takes : {A : Type 0} (f : Format A) → IsExact f → (n : ℕ) (bytes : List ℕ) (x : List A × List ℕ) → IsBytes bytes → repeat_at f.read n bytes ≡ Ok x
+    → Reads (repeat n f) bytes x
+repeat-takes f p zero bytes x fits e =
+    subst (λ y. Reads (repeat zero f) bytes y) (ok_is ([], bytes) x e) (record { parts = refl; rest_fits = fits; fits = (refl, tt) })
 repeat-takes f p (suc n) bytes x fits e =
     let a = bind_ok (f.read bytes) (λ first. repeat_at f.read n first.1 >>= λ others. Ok (first.0 ∷ others.0, others.1)) x e in
     let b = bind_ok (repeat_at f.read n a.0.1) (λ others. Ok (a.0.0 ∷ others.0, others.1)) x a.2 in
     let one = p.takes bytes a.0 fits a.1 in
     let two = repeat-takes f p n a.0.1 b.0 one.rest_fits b.1 in
     let made : Reads (repeat (suc n) f) bytes (a.0.0 ∷ b.0.0, b.0.1) = record {
-      parts = rw flat_map-cons (one.parts ∙ ap (λ (t : List ℕ). f.spell a.0.0 ++ t) two.parts ∙ sym (append_assoc (f.spell a.0.0) (flat_map f.spell b.0.0) b.0.1));
+      parts = rw flat_map-cons
+          (one.parts ∙ ap (λ (t : List ℕ). f.spell a.0.0 ++ t) two.parts ∙ sym (append_assoc (f.spell a.0.0) (flat_map f.spell b.0.0) b.0.1));
       rest_fits = two.rest_fits;
       fits = (ap suc two.fits.0, (one.fits, two.fits.1));
     } in
     subst (λ y. Reads (repeat (suc n) f) bytes y) (ok_is (a.0.0 ∷ b.0.0, b.0.1) x b.2) made
 
-repeat-again : {A : Type 0} (f : Format A) → IsExact f → (xs : List A) (rest : List ℕ) → AllByRecursion f.Fits xs → repeat_at f.read (length xs) (flat_map f.spell xs ++ rest) ≡ Ok (xs, rest)
+repeat-again : {A : Type 0} (f : Format A) → IsExact f → (xs : List A) (rest : List ℕ) → AllByRecursion f.Fits xs
+    → repeat_at f.read (length xs) (flat_map f.spell xs ++ rest) ≡ Ok (xs, rest)
 repeat-again f p [] rest fits = refl
 repeat-again f p (x ∷ xs) rest fits =
-    let regrouped : flat_map f.spell (x ∷ xs) ++ rest ≡ f.spell x ++ (flat_map f.spell xs ++ rest) = ap (λ (y : List ℕ). y ++ rest) (flat_map-cons f.spell x xs) ∙ append_assoc (f.spell x) (flat_map f.spell xs) rest in
+    let regrouped : flat_map f.spell (x ∷ xs) ++ rest ≡ f.spell x ++ (flat_map f.spell xs ++ rest) =
+    ap (λ (y : List ℕ). y ++ rest) (flat_map-cons f.spell x xs) ∙ append_assoc (f.spell x) (flat_map f.spell xs) rest in
     ap (repeat_at f.read (suc (length xs))) regrouped ∙ rw (p.again x (flat_map f.spell xs ++ rest) fits.0, repeat-again f p xs rest fits.1) refl
 
-repeat-blames : {A : Type 0} (f : Format A) → IsExact f → (n : ℕ) (bytes : List ℕ) (bad : Bad) → IsBytes bytes → repeat_at f.read n bytes ≡ Err bad → bad.0 ≤ length bytes
+repeat-blames : {A : Type 0} (f : Format A) → IsExact f → (n : ℕ) (bytes : List ℕ) (bad : Bad) → IsBytes bytes → repeat_at f.read n bytes ≡ Err bad
+    → bad.0 ≤ length bytes
 repeat-blames f p zero bytes bad fits e = absurd cc
 repeat-blames f p (suc n) bytes bad fits e =
     elim (bind_err (f.read bytes) (λ first. repeat_at f.read n first.1 >>= λ others. Ok (first.0 ∷ others.0, others.1)) bad e) [
@@ -267,10 +293,12 @@ repeat-exact n f p = record {
 
 pub counted-exact : {A : Type 0} (count : Format ℕ) (f : Format A) → IsExact count → IsExact f → IsExact (counted count f)
 counted-exact count f p q =
-    as_value-exact (λ x. x.1) (λ xs. (length xs, xs)) (bind count (λ n. repeat n f)) (bind-exact count (λ n. repeat n f) p (λ n. repeat-exact n f q)) (λ a fits. λ i. (fits.1.0 i, a.1))
+    as_value-exact (λ x. x.1) (λ xs. (length xs, xs)) (bind count (λ n. repeat n f)) (bind-exact count (λ n. repeat n f) p (λ n. repeat-exact n f q))
+    (λ a fits. λ i. (fits.1.0 i, a.1))
 
 -- so many values are read as were asked for
-pub repeat-length : {A : Type 0} (read : List ℕ → Result (A × List ℕ) Bad) (n : ℕ) (bytes : List ℕ) (x : List A × List ℕ) → repeat_at read n bytes ≡ Ok x → length x.0 ≡ n
+pub repeat-length : {A : Type 0} (read : List ℕ → Result (A × List ℕ) Bad) (n : ℕ) (bytes : List ℕ) (x : List A × List ℕ) → repeat_at read n bytes ≡ Ok x
+    → length x.0 ≡ n
 repeat-length {A = A} read zero bytes x e = sym (ap (λ (y : List A × List ℕ). length y.0) (ok_is ([], bytes) x e))
 repeat-length {A = A} read (suc n) bytes x e =
     let a = bind_ok (read bytes) (λ first. repeat_at read n first.1 >>= λ others. Ok (first.0 ∷ others.0, others.1)) x e in
@@ -283,7 +311,8 @@ ended-blames : {A : Type 0} (b : Bool) (d bad : Bad) (x : A) → cond b (Ok x) (
 ended-blames true d bad x e = absurd cc
 ended-blames {A = A} false d bad x e = ap (λ (z : Bad). z.0) (sym (err_is {B = A} d bad e))
 
-pub whole-takes : {A : Type 0} (rule : ℕ) (f : Format A) → IsExact f → (bytes : List ℕ) (a : A) → IsBytes bytes → whole rule f bytes ≡ Ok a → (bytes ≡ f.spell a) × f.Fits a
+pub whole-takes : {A : Type 0} (rule : ℕ) (f : Format A) → IsExact f → (bytes : List ℕ) (a : A) → IsBytes bytes → whole rule f bytes ≡ Ok a
+    → (bytes ≡ f.spell a) × f.Fits a
 whole-takes rule f p bytes a fits e =
     let x = bind_ok (f.read bytes) (λ x. cond (eqb (length x.1) 0) (Ok x.0) (Err (length x.1, rule))) a e in
     let g = guard_ended (eqb (length x.0.1) 0) (length x.0.1, rule) x.0.0 a x.2 in
@@ -297,7 +326,8 @@ whole-again rule f p a fits =
     let read : f.read (f.spell a) ≡ Ok (a, []) = ap f.read (sym (append-nil (f.spell a))) ∙ p.again a [] fits in
     rw read refl
 
-pub whole-blames : {A : Type 0} (rule : ℕ) (f : Format A) → IsExact f → (bytes : List ℕ) (bad : Bad) → IsBytes bytes → whole rule f bytes ≡ Err bad → bad.0 ≤ length bytes
+pub whole-blames : {A : Type 0} (rule : ℕ) (f : Format A) → IsExact f → (bytes : List ℕ) (bad : Bad) → IsBytes bytes → whole rule f bytes ≡ Err bad
+    → bad.0 ≤ length bytes
 whole-blames rule f p bytes bad fits e =
     elim (bind_err (f.read bytes) (λ x. cond (eqb (length x.1) 0) (Ok x.0) (Err (length x.1, rule))) bad e) [
       | inl h ↦ p.blames bytes bad fits h
@@ -307,7 +337,8 @@ whole-blames rule f p bytes bad fits e =
     ]
 
 -- the offset of a bad field, from the bytes that are left
-pub refused : {A : Type 0} (read : Result A Bad) (n left rule offset : ℕ) → offset ≡ n - left → left ≤ n → read ≡ Err (left, rule) → (offset ≤ n) × (read ≡ Err (n - offset, rule))
+pub refused : {A : Type 0} (read : Result A Bad) (n left rule offset : ℕ) → offset ≡ n - left → left ≤ n → read ≡ Err (left, rule)
+    → (offset ≤ n) × (read ≡ Err (n - offset, rule))
 refused read n left rule offset e le h =
     let same : left ≡ n - offset = omega arith in
     (omega arith, h ∙ ap (λ (z : ℕ). Err (z, rule)) same)

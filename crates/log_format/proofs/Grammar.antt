@@ -1,6 +1,7 @@
 -- The format of a log is exact.
 use Rattle.std.proofs.Common.{◌≡◌, ℕ, zero, suc, ◌^◌, Bool, true, refl, sym, ap, ◌∙◌, arith}
 use Rattle.std.specs.Int.{w8, w16, w32, w64}
+use Rattle.rv_words.specs.Limits.{most_pages}
 use Rattle.log_entry.specs.declared.log.Entry.{Entry}
 use Rattle.log_format.specs.Grammar.{any, exactly, below, at_most, between, mode_of, mode_number, left_of, left_number, cause_of, cause_number, input_of, kind_number, value_number, greatest_value, u8, u16, u32, u64, mode_format, left_format, cause_format, input_format, wait_format, waits_format, gain_format, yield_format, poll_format, touch_format, end_format, tag_of, fields_of_tag, entry_format, stream_format, magic, head_format, log_format}
 use Rattle.log_format.proofs.Exact.{IsExact, wide8, wide16, wide32, wide64, number-exact, block-exact, bind-exact, as_value-exact, tagged-exact, repeat-exact, counted-exact}
@@ -131,7 +132,8 @@ tags harts units (suc (suc (suc (suc (suc tag))))) entry ok fits = ap tag_of (sy
 
 pub entry-exact : (harts units : ℕ) → IsExact (entry_format harts units)
 unfolding entry_format
-entry-exact harts units = tagged-exact _ _ tag_of (u8-exact 7 (between 1 5)) (λ tag fits. fields-exact harts units tag) (λ tag entry ok fits. tags harts units tag entry ok.1 fits)
+entry-exact harts units =
+    tagged-exact _ _ tag_of (u8-exact 7 (between 1 5)) (λ tag fits. fields-exact harts units tag) (λ tag entry ok fits. tags harts units tag entry ok.1 fits)
 
 -- ---- a log
 
@@ -142,7 +144,7 @@ head-exact : IsExact head_format
 unfolding head_format
 head-exact =
     bind-exact _ _ (u32-exact 2 (exactly magic)) (λ _. bind-exact _ _ (u8-exact 3 (exactly 1)) (λ _. bind-exact _ _ (u8-exact 4 (between 1 8)) (λ _.
-    bind-exact _ _ (u16-exact 5 (between 1 4096)) (λ _. bind-exact _ _ (u64-exact 6 (at_most 1000000000000)) (λ _. block-exact 32)))))
+    bind-exact _ _ (u16-exact 5 (between 1 most_pages)) (λ _. bind-exact _ _ (u64-exact 6 (at_most 1000000000000)) (λ _. block-exact 32)))))
 
 is_value : (value n : ℕ) → exactly value n ≡ true → value ≡ n
 is_value value n h = grind arith

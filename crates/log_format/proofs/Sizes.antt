@@ -22,7 +22,8 @@ waits_size harts (wait ∷ waits) =
     omega (arith, whole, one, rest)
 
 -- fields of so many bytes, and what stands behind them
-behind_gain : (a b c d e f rest : List ℕ) → length a ≡ 1 → length b ≡ 8 → length c ≡ 2 → length d ≡ 4 → length e ≡ 1 → length f ≡ 1 → length (a ++ (b ++ (c ++ (d ++ (e ++ (f ++ rest)))))) ≡ 17 + length rest
+behind_gain : (a b c d e f rest : List ℕ) → length a ≡ 1 → length b ≡ 8 → length c ≡ 2 → length d ≡ 4 → length e ≡ 1 → length f ≡ 1
+    → length (a ++ (b ++ (c ++ (d ++ (e ++ (f ++ rest)))))) ≡ 17 + length rest
 behind_gain a b c d e f rest p q r s t u =
     let la = length-append a (b ++ (c ++ (d ++ (e ++ (f ++ rest))))) in
     let lb = length-append b (c ++ (d ++ (e ++ (f ++ rest)))) in
@@ -35,7 +36,8 @@ behind_gain a b c d e f rest p q r s t u =
 entry_size : (harts units : ℕ) (entry : Entry) → length ((entry_format harts units).spell entry) ≡ size_of entry
 unfolding entry_format gain_format yield_format poll_format touch_format end_format waits_format input_format
 entry_size harts units (Gain count page seq mode waits) =
-    behind_gain (to_le_bytes w8 1) (to_le_bytes w64 count) (to_le_bytes w16 page) (to_le_bytes w32 seq) (to_le_bytes w8 (mode_number mode)) (to_le_bytes w8 (length waits.items))
+    behind_gain (to_le_bytes w8 1) (to_le_bytes w64 count) (to_le_bytes w16 page) (to_le_bytes w32 seq) (to_le_bytes w8 (mode_number mode))
+    (to_le_bytes w8 (length waits.items))
     (flat_map (wait_format harts).spell waits.items) refl refl refl refl refl refl
     ∙ ap (λ (n : ℕ). 17 + n) (waits_size harts waits.items)
 entry_size harts units (Yield count page seq left) = refl
@@ -56,7 +58,8 @@ stream_size unit harts units stream =
     length-append ((u32 1 any).spell (length stream)) (flat_map (entry_format harts units).spell stream)
     ∙ ap (λ (n : ℕ). 4 + n) (entries_size unit harts units stream)
 
-streams_size : (unit harts units : ℕ) (streams : List (List Entry)) → length (flat_map (stream_format harts units).spell streams) ≡ sum_by (size_of_stream unit harts) streams
+streams_size : (unit harts units : ℕ) (streams : List (List Entry))
+    → length (flat_map (stream_format harts units).spell streams) ≡ sum_by (size_of_stream unit harts) streams
 streams_size unit harts units [] = refl
 streams_size unit harts units (stream ∷ streams) =
     length-append ((stream_format harts units).spell stream) (flat_map (stream_format harts units).spell streams)
@@ -64,7 +67,8 @@ streams_size unit harts units (stream ∷ streams) =
     ∙ ap (λ (n : ℕ). size_of_stream unit harts stream + n) (streams_size unit harts units streams)
     ∙ sym (sum_by-cons (size_of_stream unit harts) stream streams)
 
-behind_head : (a b c d e image : List ℕ) → length a ≡ 4 → length b ≡ 1 → length c ≡ 1 → length d ≡ 2 → length e ≡ 8 → length (a ++ (b ++ (c ++ (d ++ (e ++ image))))) ≡ 16 + length image
+behind_head : (a b c d e image : List ℕ) → length a ≡ 4 → length b ≡ 1 → length c ≡ 1 → length d ≡ 2 → length e ≡ 8
+    → length (a ++ (b ++ (c ++ (d ++ (e ++ image))))) ≡ 16 + length image
 behind_head a b c d e image p q r s t =
     let la = length-append a (b ++ (c ++ (d ++ (e ++ image)))) in
     let lb = length-append b (c ++ (d ++ (e ++ image))) in
@@ -75,7 +79,9 @@ behind_head a b c d e image p q r s t =
 
 head_size : (log : Log) → length (head_format.spell (head_of log)) ≡ 16 + length log.image
 unfolding head_format
-head_size log = behind_head (to_le_bytes w32 0x4C545652) (to_le_bytes w8 1) (to_le_bytes w8 (length log.streams)) (to_le_bytes w16 log.pages) (to_le_bytes w64 log.limit) log.image refl refl refl refl refl
+head_size log =
+    behind_head (to_le_bytes w32 0x4C545652) (to_le_bytes w8 1) (to_le_bytes w8 (length log.streams)) (to_le_bytes w16 log.pages)
+    (to_le_bytes w64 log.limit) log.image refl refl refl refl refl
 
 log_size : (log : Log) → length log.image ≡ 32 → length (spelling log) ≡ size_of_log (unit_of log) log.streams
 unfolding log_format

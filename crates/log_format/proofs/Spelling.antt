@@ -30,11 +30,14 @@ entry-room harts units (Poll count ord time bits) = refl
 entry-room harts units (Touch count ord input) = refl
 entry-room harts units (End count) = refl
 
-stream-room : (harts units : ℕ) (entries : List Entry) → (stream_format harts units).spell (stream_without_room entries) ≡ (stream_format harts units).spell entries
+stream-room : (harts units : ℕ) (entries : List Entry)
+    → (stream_format harts units).spell (stream_without_room entries) ≡ (stream_format harts units).spell entries
 stream-room harts units entries =
     let s = (entry_format harts units).spell in
-    let size : (u32 1 any).spell (length (map entry_without_room entries)) ≡ (u32 1 any).spell (length entries) = ap (u32 1 any).spell (length-map entries entry_without_room) in
-    let body : flat_map s (map entry_without_room entries) ≡ flat_map s entries = flat_map-map s entry_without_room entries ∙ (λ i. flat_map (λ entry. entry-room harts units entry i) entries) in
+    let size : (u32 1 any).spell (length (map entry_without_room entries)) ≡ (u32 1 any).spell (length entries) =
+    ap (u32 1 any).spell (length-map entries entry_without_room) in
+    let body : flat_map s (map entry_without_room entries) ≡ flat_map s entries =
+    flat_map-map s entry_without_room entries ∙ (λ i. flat_map (λ entry. entry-room harts units entry i) entries) in
     λ i. size i ++ body i
 
 -- a log is spelled alike whatever room its waits have
@@ -53,7 +56,8 @@ spelling-room log =
 
 -- the spelling as it is written: head, streams under no bounds, cause
 pub spelling-parts : (log : Log) (streams : List (List Entry)) → streams ≡ log.streams
-    → (head_format.spell (magic, (1, (length streams, (log.pages, (log.limit, log.image))))) ++ flat_map (stream_format 0 0).spell streams) ++ cause_format.spell log.cause ≡ spelling log
+    → (head_format.spell (magic, (1, (length streams, (log.pages, (log.limit, log.image))))) ++ flat_map (stream_format 0 0).spell streams)
+    ++ cause_format.spell log.cause ≡ spelling log
 unfolding log_format
 spelling-parts log streams same =
     let head : List (List Entry) → List ℕ = λ xs. head_format.spell (magic, (1, (length xs, (log.pages, (log.limit, log.image))))) in
@@ -70,6 +74,7 @@ behind o a b first second = second ∙ ap (λ (x : List ℕ). x ++ b) first ∙ 
 pub one_more : {X : Type 0} (f : X → List ℕ) (P : X → Type 0) (o : List ℕ) (xs : List X) (i : ℕ) (d x : X) {m n : List ℕ} → i < length xs → get_or xs i d ≡ x
     → (m ≡ o ++ flat_map f (take i xs)) × All P (take i xs) → n ≡ m ++ f x → P x → (n ≡ o ++ flat_map f (take (i + 1) xs)) × All P (take (i + 1) xs)
 one_more f P o xs i d x within is before written holds = (
-  written ∙ ap (λ (bytes : List ℕ). bytes ++ f x) before.0 ∙ flat_map_more f o (take i xs) x ∙ ap (λ (ys : List _). o ++ flat_map f ys) (ap (λ y. take i xs ++ y ∷ []) (sym is) ∙ sym (take_more xs i d within)),
+  written ∙ ap (λ (bytes : List ℕ). bytes ++ f x) before.0 ∙ flat_map_more f o (take i xs) x
+      ∙ ap (λ (ys : List _). o ++ flat_map f ys) (ap (λ y. take i xs ++ y ∷ []) (sym is) ∙ sym (take_more xs i d within)),
   All-more P xs i d within before.1 (subst P (sym is) holds),
 )

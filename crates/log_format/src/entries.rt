@@ -83,7 +83,8 @@ fn wait_list(
 
 #[tactic(auto, unfolding(crate::specs::Grammar::waits_format))]
 fn waits_of(alloc: Global, harts: u8, bytes: &[u8]) -> Result<(Waits, &[u8]), Stop>
-    ensures { Gives (λ x. (record { items = x.0.items; room = 0 }, x.1.now)) result ((waits_format harts).read bytes.now) }
+    ensures { Gives (λ x. (record { items = x.0.items; room = 0 }, x.1.now)) result
+        ((waits_format harts).read bytes.now) }
 {
     let (count, rest) = u8_at_most(bytes, 10, 7)?;
     let (waits, rest) = wait_list(alloc, harts, count, rest)?;
@@ -200,7 +201,8 @@ fn entry_list(
     count: u32,
     bytes: &[u8],
 ) -> Result<(Vec<Entry>, &[u8]), Stop>
-    ensures { Gives (λ x. (map entry_without_room x.0.items, x.1.now)) result (repeat_at (entry_format harts units).read count bytes.now) }
+    ensures { Gives (λ x. (map entry_without_room x.0.items, x.1.now)) result
+        (repeat_at (entry_format harts units).read count bytes.now) }
 {
     let mut entries = room_for(alloc, count, bytes.len())?;
     let mut rest = bytes;

@@ -1,9 +1,11 @@
 //! Which logs have bytes.
 ghost use Rattle.std.specs.Prelude.{◌≡◌, ◌&&◌, nat_lt, nat_le, length};
 ghost use Rattle.std.specs.List.{list_all};
+ghost use Rattle.rv_words.specs.Limits.{most_pages};
 ghost use Rattle.log_entry.specs.Range.{is_wait, is_left, in_range, is_stream, is_entry};
 
 use log_entry::{Entries, Entry, Log, Mode, WaitFor, Waits};
+use rv_words::MOST_PAGES;
 
 fn all_waits(harts: usize, waits: &[WaitFor]) -> bool
     ensures { result ≡ list_all (is_wait harts) waits.now }
@@ -18,7 +20,8 @@ fn are_waits(harts: usize, waits: &Waits) -> bool
 }
 
 fn is_gain(harts: usize, units: u16, page: u32, waits: &Waits) -> bool
-    ensures { result ≡ (nat_lt page units && nat_le (length waits.now.items) 7 && list_all (is_wait harts) waits.now.items) }
+    ensures { result ≡ (nat_lt page units
+        && nat_le (length waits.now.items) 7 && list_all (is_wait harts) waits.now.items) }
 {
     page < units as u32 && are_waits(harts, waits)
 }
@@ -63,9 +66,10 @@ fn all_streams(harts: usize, units: u16, streams: &[Entries]) -> bool
 }
 
 fn is_board(harts: usize, pages: u16, limit: u64) -> bool
-    ensures { result ≡ (nat_le 1 harts && nat_le harts 8 && nat_le 1 pages && nat_le pages 4096 && nat_le limit 1000000000000) }
+    ensures { result ≡ (nat_le 1 harts && nat_le harts 8
+        && nat_le 1 pages && nat_le pages most_pages && nat_le limit 1000000000000) }
 {
-    1 <= harts && harts <= 8 && 1 <= pages && pages <= 4096 && limit <= 1_000_000_000_000
+    1 <= harts && harts <= 8 && 1 <= pages && pages <= MOST_PAGES && limit <= 1_000_000_000_000
 }
 
 /// Whether the values of the log are those that the bytes of a log can have.

@@ -13,6 +13,7 @@ use crate::numbers::{
     MAGIC, bad, digest_at, u8_between, u8_exactly, u16_between, u32_exactly, u64_at_most,
 };
 use log_entry::{Cause, Entries, Log, Streams};
+use rv_words::MOST_PAGES;
 use std::alloc::Global;
 
 /// What stands before the streams.
@@ -26,12 +27,13 @@ struct Head {
 
 #[tactic(auto, unfolding(crate::specs::Grammar::head_format))]
 fn head_of(bytes: &[u8]) -> Result<(Head, &[u8]), Stop>
-    ensures { Gives (λ x. ((magic, (1, (x.0.harts, (x.0.pages, (x.0.limit, x.0.image))))), x.1.now)) result (head_format.read bytes.now) }
+    ensures { Gives (λ x. ((magic, (1, (x.0.harts, (x.0.pages, (x.0.limit, x.0.image))))), x.1.now)) result
+        (head_format.read bytes.now) }
 {
     let (_, rest) = u32_exactly(bytes, 2, MAGIC)?;
     let (_, rest) = u8_exactly(rest, 3, 1)?;
     let (harts, rest) = u8_between(rest, 4, 1, 8)?;
-    let (pages, rest) = u16_between(rest, 5, 1, 4096)?;
+    let (pages, rest) = u16_between(rest, 5, 1, MOST_PAGES)?;
     let (limit, rest) = u64_at_most(rest, 6, 1_000_000_000_000)?;
     let (image, rest) = digest_at(rest)?;
     let head = Head {
@@ -49,7 +51,8 @@ fn stream_list(
     units: u16,
     bytes: &[u8],
 ) -> Result<(Vec<Entries>, &[u8]), Stop>
-    ensures { Gives (λ x. (map stream_without_room x.0.items, x.1.now)) result (repeat_at (stream_format harts units).read harts bytes.now) }
+    ensures { Gives (λ x. (map stream_without_room x.0.items, x.1.now)) result
+        (repeat_at (stream_format harts units).read harts bytes.now) }
 {
     let mut streams = Vec::with_capacity(alloc, usize::from(harts))?;
     let mut rest = bytes;
@@ -95,13 +98,14 @@ fn whole_log(alloc: Global, bytes: &[u8]) -> Result<Log, Stop>
     })
 }
 
-/// The log that the bytes spell, all of them. The bytes are read once, from the front, and the
-/// room that is taken for entries is bounded by the bytes that are left.
+/// The log that the bytes spell, all of them. The bytes are read once, from the front. By construction, room is
+/// reserved for no more entries than the bytes left can hold.
 pub fn read_log(alloc: Global, bytes: &[u8]) -> Result<Log, ReadError>
     // What is read is in range, and is spelled so.
     ensures found { IfOk result (λ l. IsTrue (in_range l) × (bytes.now ≡ spelling l)) }
     // What is spelled so is read, unless memory runs out, and nothing else is.
-    ensures only { (l : Log) → log_format.Fits (log_without_room l) → bytes.now ≡ spelling l → MatchResult result (λ r. log_without_room r ≡ log_without_room l) (λ e. e ≡ ReadError.NoMemory) }
+    ensures only { (l : Log) → log_format.Fits (log_without_room l) → bytes.now ≡ spelling l
+        → MatchResult result (λ r. log_without_room r ≡ log_without_room l) (λ e. e ≡ ReadError.NoMemory) }
     // The first bad field and its rule.
     ensures answer { Answers result (reading bytes.now) }
 {

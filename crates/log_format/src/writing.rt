@@ -119,7 +119,8 @@ fn put_wait_list(out: &mut Vec<u8>, waits: &[WaitFor]) -> Result<(), AllocError>
 
 fn put_counted_waits(out: &mut Vec<u8>, waits: &[WaitFor]) -> Result<(), AllocError>
     requires { length waits.now < 2 ^ 8 }
-    ensures bytes { OnOk result (out.new.items ≡ out.old.items ++ (to_le_bytes w8 (length waits.now) ++ flat_map (wait_format 0).spell waits.now)) }
+    ensures bytes { OnOk result (out.new.items ≡ out.old.items
+        ++ (to_le_bytes w8 (length waits.now) ++ flat_map (wait_format 0).spell waits.now)) }
     ensures narrow { OnOk result (All IsNarrowWait waits.now) }
 {
     put_u8(out, waits.len() as u8)?;
@@ -161,7 +162,8 @@ fn put_privilege(
     page: u16,
     seq: u32,
 ) -> Result<(), AllocError>
-    ensures { OnOk result (out.new.items ≡ out.old.items ++ (to_le_bytes w8 tag ++ (to_le_bytes w64 count ++ (to_le_bytes w16 page ++ to_le_bytes w32 seq)))) }
+    ensures { OnOk result (out.new.items ≡ out.old.items
+        ++ (to_le_bytes w8 tag ++ (to_le_bytes w64 count ++ (to_le_bytes w16 page ++ to_le_bytes w32 seq)))) }
 {
     put_u8(out, tag)?;
     put_u64(out, count)?;
@@ -179,7 +181,8 @@ fn put_gain(
     waits: &Waits,
 ) -> Result<(), AllocError>
     requires { page < 2 ^ 16 }
-    ensures bytes { OnOk result (out.new.items ≡ out.old.items ++ (entry_format 0 0).spell (Entry.Gain count page seq mode waits.now)) }
+    ensures bytes { OnOk result (out.new.items ≡ out.old.items
+        ++ (entry_format 0 0).spell (Entry.Gain count page seq mode waits.now)) }
     ensures narrow { OnOk result (IsNarrow (Entry.Gain count page seq mode waits.now)) }
 {
     put_privilege(out, 1, count, page as u16, seq)?;
@@ -196,7 +199,8 @@ fn put_yield(
     left: Option<Mode>,
 ) -> Result<(), AllocError>
     requires { page < 2 ^ 16 }
-    ensures bytes { OnOk result (out.new.items ≡ out.old.items ++ (entry_format 0 0).spell (Entry.Yield count page seq left)) }
+    ensures bytes { OnOk result (out.new.items ≡ out.old.items
+        ++ (entry_format 0 0).spell (Entry.Yield count page seq left)) }
     ensures narrow { IsNarrow (Entry.Yield count page seq left) }
 {
     put_privilege(out, 2, count, page as u16, seq)?;
@@ -205,7 +209,8 @@ fn put_yield(
 }
 
 fn put_poll(out: &mut Vec<u8>, count: u64, ord: u32, time: u64, bits: u8) -> Result<(), AllocError>
-    ensures bytes { OnOk result (out.new.items ≡ out.old.items ++ (entry_format 0 0).spell (Entry.Poll count ord time bits)) }
+    ensures bytes { OnOk result (out.new.items ≡ out.old.items
+        ++ (entry_format 0 0).spell (Entry.Poll count ord time bits)) }
     ensures narrow { IsNarrow (Entry.Poll count ord time bits) }
 {
     put_event(out, 3, count, ord)?;
@@ -216,7 +221,8 @@ fn put_poll(out: &mut Vec<u8>, count: u64, ord: u32, time: u64, bits: u8) -> Res
 
 /// The tag and the fields that a Poll and a Touch begin with.
 fn put_event(out: &mut Vec<u8>, tag: u8, count: u64, ord: u32) -> Result<(), AllocError>
-    ensures { OnOk result (out.new.items ≡ out.old.items ++ (to_le_bytes w8 tag ++ (to_le_bytes w64 count ++ to_le_bytes w32 ord))) }
+    ensures { OnOk result (out.new.items ≡ out.old.items
+        ++ (to_le_bytes w8 tag ++ (to_le_bytes w64 count ++ to_le_bytes w32 ord))) }
 {
     put_u8(out, tag)?;
     put_u64(out, count)?;
@@ -225,7 +231,8 @@ fn put_event(out: &mut Vec<u8>, tag: u8, count: u64, ord: u32) -> Result<(), All
 }
 
 fn put_touch(out: &mut Vec<u8>, count: u64, ord: u32, input: Input) -> Result<(), AllocError>
-    ensures bytes { OnOk result (out.new.items ≡ out.old.items ++ (entry_format 0 0).spell (Entry.Touch count ord input)) }
+    ensures bytes { OnOk result (out.new.items ≡ out.old.items
+        ++ (entry_format 0 0).spell (Entry.Touch count ord input)) }
     ensures narrow { IsNarrow (Entry.Touch count ord input) }
 {
     put_event(out, 4, count, ord)?;
@@ -306,7 +313,8 @@ fn put_streams(out: &mut Vec<u8>, streams: &[Entries]) -> Result<(), AllocError>
 
 /// Magic, version, harts and pages.
 fn put_board(out: &mut Vec<u8>, harts: u8, pages: u16) -> Result<(), AllocError>
-    ensures { OnOk result (out.new.items ≡ out.old.items ++ (to_le_bytes w32 magic ++ (to_le_bytes w8 1 ++ (to_le_bytes w8 harts ++ to_le_bytes w16 pages)))) }
+    ensures { OnOk result (out.new.items ≡ out.old.items
+        ++ (to_le_bytes w32 magic ++ (to_le_bytes w8 1 ++ (to_le_bytes w8 harts ++ to_le_bytes w16 pages)))) }
 {
     put_u32(out, MAGIC)?;
     put_u8(out, 1)?;
@@ -322,7 +330,8 @@ fn put_head(
     limit: u64,
     image: &[u8; 32],
 ) -> Result<(), AllocError>
-    ensures bytes { OnOk result (out.new.items ≡ out.old.items ++ head_format.spell (magic, (1, (harts, (pages, (limit, image.now)))))) }
+    ensures bytes { OnOk result (out.new.items ≡ out.old.items
+        ++ head_format.spell (magic, (1, (harts, (pages, (limit, image.now)))))) }
     ensures digest { length image.now ≡ 32 }
 {
     put_board(out, harts, pages)?;

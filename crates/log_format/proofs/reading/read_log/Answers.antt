@@ -21,5 +21,7 @@ returns-in-Ok-clause-only c = λ l fits e.
 
 pub returns-in-Err-Bad-clause-only : goal.returns-in-Err-Bad-clause-only
 returns-in-Err-Bad-clause-only c = λ l fits e.
-    let bad : whole 14 log_format c.args.bytes.now ≡ Err (c.in-Err-Bad.left, c.in-Err-Bad.rule) = subst (λ z. Fails z (whole 14 log_format c.args.bytes.now)) c.in-Err-Bad.field-0-is c.in-Err-Bad.ensures in
-    absurd (err_not_ok _ (log_without_room l) (sym bad ∙ ap (whole 14 log_format) (e ∙ sym (spelling-room l)) ∙ whole-again 14 log_format log-exact (log_without_room l) fits))
+    let bad : whole 14 log_format c.args.bytes.now ≡ Err (c.in-Err-Bad.left, c.in-Err-Bad.rule) =
+    subst (λ z. Fails z (whole 14 log_format c.args.bytes.now)) c.in-Err-Bad.field-0-is c.in-Err-Bad.ensures in
+    absurd (err_not_ok _ (log_without_room l)
+    (sym bad ∙ ap (whole 14 log_format) (e ∙ sym (spelling-room l)) ∙ whole-again 14 log_format log-exact (log_without_room l) fits))

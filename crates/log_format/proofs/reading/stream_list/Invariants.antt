@@ -6,4 +6,6 @@ use Rattle.log_format.proofs.Loop.{with_front}
 use Rattle.log_format.proofs.reading.stream_list.Given as goal
 
 abbrev pub invariant-loop : goal.invariant-loop
-invariant-loop l = with_front (map stream_without_room l.streams.items) (repeat_at (stream_format l.harts l.units).read (l.harts - l.counter) l.rest) ≡ repeat_at (stream_format l.harts l.units).read l.harts l.bytes
+invariant-loop l =
+    with_front (map stream_without_room l.streams.items) (repeat_at (stream_format l.harts l.units).read (l.harts - l.counter) l.rest)
+    ≡ repeat_at (stream_format l.harts l.units).read l.harts l.bytes

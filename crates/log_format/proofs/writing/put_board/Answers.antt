@@ -11,4 +11,6 @@ returns c =
     let version : List ℕ = to_le_bytes w8 1 in
     let harts : List ℕ = to_le_bytes w8 c.args.harts in
     let pages : List ℕ = to_le_bytes w16 c.args.pages in
-    behind o (first ++ version ++ harts) pages (behind o (first ++ version) harts (behind o first version c.in_ok-put_u32.ensures c.in_ok-put_u8.ensures) c.in_ok-put_u8-2.ensures) c.in_ok-put_u16.ensures
+    behind o (first ++ version ++ harts) pages
+    (behind o (first ++ version) harts
+    (behind o first version c.in_ok-put_u32.ensures c.in_ok-put_u8.ensures) c.in_ok-put_u8-2.ensures) c.in_ok-put_u16.ensures

@@ -9,7 +9,8 @@ use Rattle.log_format.proofs.Ranges.{spellable-from_range}
 use Rattle.log_format.proofs.writing.put_log.Goals as goal
 
 pub put_streams-requires : goal.put_streams-requires
-put_streams-requires c = subst (λ (streams : List (List Entry)). All IsSpellableStream streams) (sym c.items-streams.ensures) (spellable-from_range c.args.l.now c.requires)
+put_streams-requires c =
+    subst (λ (streams : List (List Entry)). All IsSpellableStream streams) (sym c.items-streams.ensures) (spellable-from_range c.args.l.now c.requires)
 
 pub returns-clause-bytes : goal.returns-clause-bytes
 returns-clause-bytes c =

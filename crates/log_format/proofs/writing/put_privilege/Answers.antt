@@ -10,4 +10,5 @@ returns c =
     let count : List ℕ = to_le_bytes w64 c.args.count in
     let page : List ℕ = to_le_bytes w16 c.args.page in
     let seq : List ℕ = to_le_bytes w32 c.args.seq in
-    behind o (tag ++ count ++ page) seq (behind o (tag ++ count) page (behind o tag count c.in_ok-put_u8.ensures c.in_ok-put_u64.ensures) c.in_ok-put_u16.ensures) c.in_ok-put_u32.ensures
+    behind o (tag ++ count ++ page) seq
+    (behind o (tag ++ count) page (behind o tag count c.in_ok-put_u8.ensures c.in_ok-put_u64.ensures) c.in_ok-put_u16.ensures) c.in_ok-put_u32.ensures

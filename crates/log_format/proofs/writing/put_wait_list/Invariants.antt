@@ -5,4 +5,5 @@ use Rattle.log_format.specs.Writing.{IsNarrowWait}
 use Rattle.log_format.proofs.writing.put_wait_list.Given as goal
 
 abbrev pub invariant-loop-wait : goal.invariant-loop-wait
-invariant-loop-wait l = (l.out.items ≡ l.initial.out.items ++ flat_map (wait_format 0).spell (take l.wait-index l.waits)) × All IsNarrowWait (take l.wait-index l.waits)
+invariant-loop-wait l =
+    (l.out.items ≡ l.initial.out.items ++ flat_map (wait_format 0).spell (take l.wait-index l.waits)) × All IsNarrowWait (take l.wait-index l.waits)

@@ -12,4 +12,5 @@ returns-in-Ok-clause-size c =
 pub returns-in-Ok-clause-again : goal.returns-in-Ok-clause-again
 returns-in-Ok-clause-again c =
     let log = c.args.l.now in
-    ap reading (c.in-Ok.ensures.bytes ∙ ap (λ (bytes : List ℕ). bytes ++ spelling log) c.new-out.ensures.items) ∙ read-again log c.requires c.in-Ok.ensures.narrow c.in-Ok.ensures.digest
+    ap reading (c.in-Ok.ensures.bytes ∙ ap (λ (bytes : List ℕ). bytes ++ spelling log) c.new-out.ensures.items)
+    ∙ read-again log c.requires c.in-Ok.ensures.narrow c.in-Ok.ensures.digest
