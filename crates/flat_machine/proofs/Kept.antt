@@ -74,7 +74,8 @@ word_keeps d word (Some v) Empty = tt
 word_keeps d word (Some v) (Byte b) = tt
 word_keeps d word (Some v) (Time t) = tt
 
-touched_at : (d : Devices) (access : Access) (input : Input) (word : Option DeviceWord) → KeepsHarts d (option_and_then (λ w. word_touched d w access.store input) word)
+touched_at : (d : Devices) (access : Access) (input : Input) (word : Option DeviceWord)
+    → KeepsHarts d (option_and_then (λ w. word_touched d w access.store input) word)
 touched_at d access input None = tt
 touched_at d access input (Some word) = word_keeps d word access.store input
 
@@ -86,5 +87,6 @@ again_keeps None old new answer k m = ap (λ (d : Devices). d.harts) m.1
 again_keeps (Some after) old new answer k m = ap (λ (d : Devices). d.harts) m.1 ∙ k
 
 -- devices that made an access again have the harts that they had
-pub touch_keeps_harts : (old new : Devices) (access : Access) (input : Input) (answer : Option ℕ) → MadeAgain (touched old access input) old new answer → new.harts ≡ old.harts
+pub touch_keeps_harts : (old new : Devices) (access : Access) (input : Input) (answer : Option ℕ) → MadeAgain (touched old access input) old new answer
+    → new.harts ≡ old.harts
 touch_keeps_harts old new access input answer m = again_keeps (touched old access input) old new answer (touched_keeps old access input) m

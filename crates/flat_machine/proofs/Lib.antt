@@ -1,5 +1,4 @@
 pub mod Acting
 pub mod Kept
 pub mod Rows
-pub mod Sizes
 pub mod Starting

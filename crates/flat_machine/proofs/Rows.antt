@@ -8,6 +8,7 @@ use Rattle.rv_csr.specs.Registers.{mstatus, mip}
 use Rattle.rv_decode.specs.Table.{meaning, table}
 use Rattle.rv_hart.specs.State.{Hart}
 use Rattle.rv_hart.specs.Effects.{reg, instr_effect}
+use Rattle.rv_words.specs.Limits.{page_bytes}
 use Rattle.elf_image.specs.Image.{Image}
 use Rattle.flat_machine.specs.State.{FlatState, flat_at_start}
 use Rattle.flat_machine.specs.Runs.{flat, story}
@@ -21,7 +22,8 @@ bytes_of (w ∷ ws) = to_le_bytes w32 w ++ bytes_of ws
 
 -- an image of some words at the beginning of memory
 abbrev image_of : ℕ → List ℕ → Image
-image_of pages words = record { entry = 0x80000000; pages = pages; unit = 4096; bytes = bytes_of words ++ replicate (4096 * pages - 4 * length words) 0 }
+image_of pages words =
+    record { entry = 0x80000000; pages = pages; unit = page_bytes; bytes = bytes_of words ++ replicate (page_bytes * pages - 4 * length words) 0 }
 
 abbrev runs : ℕ → ℕ → List Act
 runs h zero = []
@@ -32,7 +34,9 @@ hart_after h o = option_and_then (λ (s : FlatState). slice_get s.harts h) o
 
 -- pc, mstatus, mie, mtvec, mscratch, mepc, mcause, mtval, mip, mcycle, minstret
 abbrev csrs_shown : Hart → List ℕ
-csrs_shown x = x.pc ∷ mstatus x.csrs ∷ x.csrs.mie ∷ x.csrs.mtvec ∷ x.csrs.mscratch ∷ x.csrs.mepc ∷ x.csrs.mcause ∷ x.csrs.mtval ∷ mip x.csrs ∷ x.csrs.mcycle ∷ x.csrs.minstret ∷ []
+csrs_shown x =
+    x.pc ∷ mstatus x.csrs ∷ x.csrs.mie ∷ x.csrs.mtvec ∷ x.csrs.mscratch ∷ x.csrs.mepc ∷ x.csrs.mcause ∷ x.csrs.mtval ∷ mip x.csrs ∷ x.csrs.mcycle ∷
+    x.csrs.minstret ∷ []
 
 abbrev shown : ℕ → Option FlatState → Option (List ℕ)
 shown h o = option_map csrs_shown (hart_after h o)
@@ -59,7 +63,8 @@ unfolding meaning table instr_effect
 smallest_run = (refl, refl)
 
 -- what each of its moves wrote, and the word that it fetched
-pub smallest_story : map {B = Option ℕ × Option (ℕ × ℕ)} (λ (step : Step). (step.word, step.wrote)) (story 0 (flat_at_start (image_of 1 smallest) 1) smallest_acts)
+pub smallest_story : map {B = Option ℕ × Option (ℕ × ℕ)} (λ (step : Step). (step.word, step.wrote))
+    (story 0 (flat_at_start (image_of 1 smallest) 1) smallest_acts)
     ≡ (Some 0x100000B7, Some (1, 0x10000000)) ∷ (Some 0x00700113, Some (2, 7)) ∷ (Some 0x0020A423, None) ∷ []
 unfolding meaning table instr_effect
 smallest_story = refl
@@ -76,7 +81,9 @@ unfolding meaning table instr_effect
 timer_interrupt = refl
 
 -- a hart sets its own msip and clears it again, and reads mip after each
-pub own_software_line : regs_shown (3 ∷ 4 ∷ []) 0 (flat (image_of 1 (0x020000B7 ∷ 0x00100113 ∷ 0x0020A023 ∷ 0x344021F3 ∷ 0x0000A023 ∷ 0x34402273 ∷ [])) 1 (Poll 0 5 ∷ runs 0 2 ++ Touch 0 Nothing ∷ Run 0 ∷ Touch 0 Nothing ∷ Run 0 ∷ []))
+pub own_software_line : regs_shown (3 ∷ 4 ∷ []) 0
+    (flat (image_of 1 (0x020000B7 ∷ 0x00100113 ∷ 0x0020A023 ∷ 0x344021F3 ∷ 0x0000A023 ∷ 0x34402273 ∷ [])) 1
+    (Poll 0 5 ∷ runs 0 2 ++ Touch 0 Nothing ∷ Run 0 ∷ Touch 0 Nothing ∷ Run 0 ∷ []))
     ≡ Some (8 ∷ 0 ∷ [])
 unfolding meaning table instr_effect
 own_software_line = refl
@@ -94,7 +101,9 @@ two_conditionals = (refl, refl, refl, refl)
 
 -- three loads of RX, that find nothing, a byte, and nothing, and a store of 0 to STOP
 abbrev console_input : Option FlatState
-console_input = flat (image_of 1 (0x100000B7 ∷ 0x0000A103 ∷ 0x0000A183 ∷ 0x0000A203 ∷ 0x0000A423 ∷ [])) 1 (Poll 0 5 ∷ Run 0 ∷ Touch 0 Empty ∷ Touch 0 (Byte 0x41) ∷ Touch 0 Empty ∷ Touch 0 Nothing ∷ [])
+console_input =
+    flat (image_of 1 (0x100000B7 ∷ 0x0000A103 ∷ 0x0000A183 ∷ 0x0000A203 ∷ 0x0000A423 ∷ [])) 1
+    (Poll 0 5 ∷ Run 0 ∷ Touch 0 Empty ∷ Touch 0 (Byte 0x41) ∷ Touch 0 Empty ∷ Touch 0 Nothing ∷ [])
 
 pub console_row : (regs_shown (2 ∷ 3 ∷ 4 ∷ []) 0 console_input ≡ Some (0xFFFFFFFF ∷ 0x41 ∷ 0xFFFFFFFF ∷ [])) × (stop_of console_input ≡ Some 0)
 unfolding meaning table instr_effect
@@ -116,10 +125,12 @@ reservations = (refl, refl, refl, refl, refl)
 -- hart 0 stores to the msip of hart 1, which enters the software interrupt, ends it by a store of its own, and returns
 abbrev interrupt_words : List ℕ
 interrupt_words =
-    0xF14022F3 ∷ 0x00029A63 ∷ 0x020000B7 ∷ 0x00100113 ∷ 0x0020A223 ∷ 0x0000006F ∷ 0x800000B7 ∷ 0x10108093 ∷ 0x30509073 ∷ 0x30445073 ∷ 0x30046073 ∷ 0x0000006F ∷ []
+    0xF14022F3 ∷ 0x00029A63 ∷ 0x020000B7 ∷ 0x00100113 ∷ 0x0020A223 ∷ 0x0000006F ∷ 0x800000B7 ∷ 0x10108093 ∷ 0x30509073 ∷ 0x30445073 ∷ 0x30046073 ∷ 0x0000006F
+    ∷ []
     ++ replicate 55 0 ++ 0x020000B7 ∷ 0x0000A223 ∷ 0x30200073 ∷ []
 
-pub software_interrupt : shown 1 (flat (image_of 1 interrupt_words) 2 (Poll 0 5 ∷ runs 0 4 ++ Touch 0 Nothing ∷ Poll 1 5 ∷ runs 1 9 ++ Touch 1 Nothing ∷ runs 1 2))
+pub software_interrupt : shown 1 (flat (image_of 1 interrupt_words) 2
+    (Poll 0 5 ∷ runs 0 4 ++ Touch 0 Nothing ∷ Poll 1 5 ∷ runs 1 9 ++ Touch 1 Nothing ∷ runs 1 2))
     ≡ Some (0x8000002C ∷ 0x1888 ∷ 8 ∷ 0x80000101 ∷ 0 ∷ 0x8000002C ∷ 0x80000003 ∷ 0 ∷ 0 ∷ 12 ∷ 11 ∷ [])
 unfolding meaning table instr_effect
 software_interrupt = refl

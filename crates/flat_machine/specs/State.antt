@@ -1,6 +1,7 @@
 -- The flat machine: harts with their counts of moves, one memory, and the devices. It has no pages, owners or threads.
 use Rattle.std.specs.Prelude.{ℕ, ◌≡◌, ◌*◌, All, length, List, map, replicate}
 use Rattle.std.specs.List.{range_with_len}
+use Rattle.rv_words.specs.Limits.{page_bytes}
 use Rattle.rv_hart.specs.State.{Hart}
 use Rattle.rv_hart.specs.Moves.{hart_at_start}
 use Rattle.elf_image.specs.Image.{Image}
@@ -33,7 +34,7 @@ OnBoard harts pages x = (x.harts ≡ harts) × (x.pages ≡ pages)
 
 -- harts, counts and memory of one board
 pub record FitsTogether (harts : List Hart) (counts memory : List ℕ) (pages number : ℕ) : Type 0 where
-  pub memory_size : length memory ≡ 4096 * pages
+  pub memory_size : length memory ≡ page_bytes * pages
   pub counts_size : length counts ≡ length harts
   pub harts_size : length harts ≡ number
   pub same_board : All (OnBoard number pages) harts

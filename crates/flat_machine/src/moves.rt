@@ -1,6 +1,7 @@
 //! One move of a hart on the memory, and what it takes from the others.
 
 ghost use Rattle.std.specs.Prelude.{◌≡◌, ◌*◌, ◌+◌, length, map};
+ghost use Rattle.rv_words.specs.Limits.{page_bytes};
 ghost use Rattle.rv_hart.specs.Places.{SameBoard};
 ghost use Rattle.flat_machine.specs.Moves.{next_move, writes_in, lost_by};
 ghost use Rattle.flat_machine.specs.HartMoves.{HartMoved, FindsAccess};
@@ -46,7 +47,7 @@ pub fn each_loses(harts: &mut Vec<Hart>, wrote: Wrote)
 /// Makes the next move of a hart, where it is no device access, and tells what it wrote.
 pub fn hart_move(hart: &mut Hart, memory: &mut Ram, pages: u16) -> Option<Wrote>
     requires board { hart.old.pages ≡ pages }
-    requires size { length memory.old ≡ 4096 * pages }
+    requires size { length memory.old ≡ page_bytes * pages }
     ensures made { HartMoved hart.old memory.old (next_move hart.old memory.old) hart.new memory.new result }
     ensures board { SameBoard hart.old hart.new }
     ensures size { length memory.new ≡ length memory.old }
@@ -73,7 +74,7 @@ pub fn hart_move(hart: &mut Hart, memory: &mut Ram, pages: u16) -> Option<Wrote>
 /// The word that the next move of a hart fetches and its device access, where it is one.
 pub fn hart_access(hart: &Hart, memory: &Ram, pages: u16) -> Option<(u32, Access)>
     requires board { hart.now.pages ≡ pages }
-    requires size { length memory.now ≡ 4096 * pages }
+    requires size { length memory.now ≡ page_bytes * pages }
     ensures { FindsAccess hart.now memory.now result }
 {
     match hart.fetch_need() {

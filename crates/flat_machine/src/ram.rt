@@ -3,6 +3,7 @@
 ghost use Rattle.std.specs.Prelude.{◌≡◌, ◌+◌, ◌*◌, ◌/◌, ◌<◌, ◌≤◌, length};
 ghost use Rattle.rv_words.specs.Addresses.{LiesInMemory};
 ghost use Rattle.rv_words.specs.Memory.{word_at, low_bytes, put};
+ghost use Rattle.rv_words.specs.Limits.{page_bytes};
 ghost use Rattle.rv_hart.specs.Places.{IsSize, WritesInMemory};
 ghost use Rattle.flat_machine.specs.Moves.{word_round, stored_by};
 
@@ -50,14 +51,14 @@ impl Ram {
 
     /// The aligned word round an address.
     pub fn word_round(&self, at: u32, pages: u16) -> u32
-        requires size { length self.now ≡ 4096 * pages }
+        requires size { length self.now ≡ page_bytes * pages }
         requires inside { LiesInMemory pages (at / 4 * 4) 4 }
         ensures { result ≡ word_round self.now at }
     {
         self.word_at((at / 4 * 4 - 0x8000_0000) as usize)
     }
 
-    #[tactic(auto, using(crate::proofs::Sizes::length_put))]
+    #[tactic(auto, using(rv_words::proofs::Memory::length_put))]
     fn put_word(&mut self, place: usize, value: u32)
         requires { place + 4 ≤ length self.old }
         ensures bytes { self.new ≡ put self.old place (low_bytes 4 value) }
@@ -66,7 +67,7 @@ impl Ram {
         self.bytes[place..place + 4].copy_from_slice(&value.to_le_bytes());
     }
 
-    #[tactic(auto, using(crate::proofs::Sizes::length_put))]
+    #[tactic(auto, using(rv_words::proofs::Memory::length_put))]
     fn put_half(&mut self, place: usize, value: u32)
         requires { place + 2 ≤ length self.old }
         ensures bytes { self.new ≡ put self.old place (low_bytes 2 value) }
@@ -75,7 +76,7 @@ impl Ram {
         self.bytes[place..place + 2].copy_from_slice(&value.to_le_bytes()[..2]);
     }
 
-    #[tactic(auto, using(crate::proofs::Sizes::length_put))]
+    #[tactic(auto, using(rv_words::proofs::Memory::length_put))]
     fn put_byte(&mut self, place: usize, value: u32)
         requires { place < length self.old }
         ensures bytes { self.new ≡ put self.old place (low_bytes 1 value) }
@@ -100,7 +101,7 @@ impl Ram {
 
     /// Writes what a move wrote.
     pub fn store(&mut self, wrote: Wrote, pages: u16)
-        requires size { length self.old ≡ 4096 * pages }
+        requires size { length self.old ≡ page_bytes * pages }
         requires inside { WritesInMemory pages wrote }
         ensures bytes { self.new ≡ stored_by self.old wrote }
         ensures size { length self.new ≡ length self.old }

@@ -17,84 +17,124 @@ pub invariant_of-self : goal.invariant_of-self
 invariant_of-self c =
     let inside : c.args.h < length c.self.inside.harts.items = search rules in
     let was_on_board : OnBoard c.self.inside.devices.devices.harts c.self.inside.pages c.index.result.now =
-    subst (λ x. OnBoard c.self.inside.devices.devices.harts c.self.inside.pages x) (sym c.index.ensures) (c.self.invariant.same_board c.args.h c.index.result.now inside) in
-    let on_board : OnBoard c.self.inside.devices.devices.harts c.self.inside.pages c.set_lines.new.self =
-    (ap (λ (x : Hart). x.harts) c.set_lines.ensures ∙ c.finish.ensures.board.0 ∙ was_on_board.0, ap (λ (x : Hart). x.pages) c.set_lines.ensures ∙ c.finish.ensures.board.1 ∙ was_on_board.1) in
-    touched_fits _ _ _ _ _ _ c.args.h _ _ c.self.invariant (touch_keeps_harts c.self.inside.devices.devices c.replay_touch.new.self.devices c.in-Some.access c.args.input c.replay_touch.result c.replay_touch.ensures.devices) on_board
+    subst (λ x. OnBoard c.self.inside.devices.devices.harts c.self.inside.pages x) (sym c.index.ensures)
+    (c.self.invariant.same_board c.args.h c.index.result.now inside) in
+    let on_board : OnBoard c.self.inside.devices.devices.harts c.self.inside.pages c.set_lines.new.self = (
+      ap (λ (x : Hart). x.harts) c.set_lines.ensures ∙ c.finish.ensures.board.0 ∙ was_on_board.0,
+      ap (λ (x : Hart). x.pages) c.set_lines.ensures
+          ∙ c.finish.ensures.board.1 ∙ was_on_board.1,
+    ) in
+    touched_fits _ _ _ _ _ _ c.args.h _ _ c.self.invariant
+    (touch_keeps_harts c.self.inside.devices.devices c.replay_touch.new.self.devices c.in-Some.access c.args.input c.replay_touch.result
+    c.replay_touch.ensures.devices) on_board
 
 pub replay_touch-requires-clause-room : goal.replay_touch-requires-clause-room
 replay_touch-requires-clause-room c =
     let inside : c.args.h < length c.self.inside.harts.items = search rules in
-    let there : slice_get c.self.inside.harts.items c.args.h ≡ Some c.index.result.now = slice_get_read c.self.inside.harts.items (length c.self.inside.harts.items) c.args.h c.index.result.now refl inside c.index.ensures in
-    access_has_room _ c.args.self.now c.args.h c.in-Some.word c.args.input c.index.result.now c.in-Some.access c.self.view_is there c.in-Some.ensures c.requires.room
+    let there : slice_get c.self.inside.harts.items c.args.h ≡ Some c.index.result.now =
+    slice_get_read c.self.inside.harts.items (length c.self.inside.harts.items) c.args.h c.index.result.now refl inside c.index.ensures in
+    access_has_room _ c.args.self.now c.args.h c.in-Some.word c.args.input c.index.result.now c.in-Some.access c.self.view_is there c.in-Some.ensures
+    c.requires.room
 
 pub lines-requires : goal.lines-requires
 lines-requires c =
     let inside : c.args.h < length c.self.inside.harts.items = search rules in
-    let kept = touch_keeps_harts c.self.inside.devices.devices c.replay_touch.new.self.devices c.in-Some.access c.args.input c.replay_touch.result c.replay_touch.ensures.devices in
+    let kept =
+    touch_keeps_harts c.self.inside.devices.devices c.replay_touch.new.self.devices c.in-Some.access c.args.input c.replay_touch.result
+    c.replay_touch.ensures.devices in
     omega (arith, inside, c.self.invariant.harts_size, kept)
 
 pub invariant_of-self-in-None-replay_touch : goal.invariant_of-self-in-None-replay_touch
 invariant_of-self-in-None-replay_touch c =
-    let kept = touch_keeps_harts c.self.inside.devices.devices c.replay_touch.new.self.devices c.in-Some.access c.args.input c.replay_touch.result c.replay_touch.ensures.devices in
+    let kept =
+    touch_keeps_harts c.self.inside.devices.devices c.replay_touch.new.self.devices c.in-Some.access c.args.input c.replay_touch.result
+    c.replay_touch.ensures.devices in
     subst (λ n. FitsTogether c.self.inside.harts.items c.self.inside.counts.items c.self.inside.memory c.self.inside.pages n) (sym kept) c.self.invariant
 
 pub returns-in-Some-replay_touch-clause-answer : goal.returns-in-Some-replay_touch-clause-answer
 returns-in-Some-replay_touch-clause-answer c =
     let inside : c.args.h < length c.self.inside.harts.items = search rules in
-    let there : slice_get c.self.inside.harts.items c.args.h ≡ Some c.index.result.now = slice_get_read c.self.inside.harts.items (length c.self.inside.harts.items) c.args.h c.index.result.now refl inside c.index.ensures in
+    let there : slice_get c.self.inside.harts.items c.args.h ≡ Some c.index.result.now =
+    slice_get_read c.self.inside.harts.items (length c.self.inside.harts.items) c.args.h c.index.result.now refl inside c.index.ensures in
     let running : is_some c.self.inside.devices.devices.stop ≡ false = search rules in
     let same : _ ≡ c.args.self.now.state = ap (λ (m : Machine). m.state) c.self.view_is in
-    let hart : c.set_lines.new.self ≡ with_lines_of c.replay_touch.new.self.devices c.args.h (after c.index.result.now (effect_of c.index.result.now c.in-Some.word) c.in-Some-replay_touch.loaded) =
-    c.set_lines.ensures ∙ ap (λ l. record c.finish.new.self { csrs = with_lines l c.finish.new.self.csrs }) c.lines.ensures.lines ∙ ap (with_lines_of c.replay_touch.new.self.devices c.args.h) c.finish.ensures.after in
-    let count : c.index_mut-in-Some-replay_touch.result.now ≡ slice_index c.self.inside.counts.items c.args.h = c.index_mut-in-Some-replay_touch.ensures.value ∙ get_or_default_zero c.self.inside.counts.items c.args.h _ (omega (arith, inside, c.self.invariant.counts_size)) in
-    let made = touch_state _ c.args.self.now.state c.args.h c.index_mut-in-Some-replay_touch.result.now c.in-Some-replay_touch.loaded c.in-Some.word c.args.input c.index.result.now c.set_lines.new.self c.in-Some.access c.replay_touch.new.self.devices same there running c.in-Some.ensures c.in-Some-replay_touch.ensures.devices hart count in
+    let hart : c.set_lines.new.self ≡ with_lines_of c.replay_touch.new.self.devices c.args.h
+    (after c.index.result.now (effect_of c.index.result.now c.in-Some.word) c.in-Some-replay_touch.loaded) =
+    c.set_lines.ensures ∙ ap (λ l. record c.finish.new.self { csrs = with_lines l c.finish.new.self.csrs }) c.lines.ensures.lines
+    ∙ ap (with_lines_of c.replay_touch.new.self.devices c.args.h) c.finish.ensures.after in
+    let count : c.index_mut-in-Some-replay_touch.result.now ≡ slice_index c.self.inside.counts.items c.args.h =
+    c.index_mut-in-Some-replay_touch.ensures.value
+    ∙ get_or_default_zero c.self.inside.counts.items c.args.h _ (omega (arith, inside, c.self.invariant.counts_size)) in
+    let made =
+    touch_state _ c.args.self.now.state c.args.h c.index_mut-in-Some-replay_touch.result.now c.in-Some-replay_touch.loaded c.in-Some.word c.args.input
+    c.index.result.now c.set_lines.new.self c.in-Some.access c.replay_touch.new.self.devices same there running c.in-Some.ensures
+    c.in-Some-replay_touch.ensures.devices hart count in
     sym (ap is_some made)
 
 pub returns-in-Some-replay_touch-clause-state : goal.returns-in-Some-replay_touch-clause-state
 returns-in-Some-replay_touch-clause-state c =
     let inside : c.args.h < length c.self.inside.harts.items = search rules in
-    let there : slice_get c.self.inside.harts.items c.args.h ≡ Some c.index.result.now = slice_get_read c.self.inside.harts.items (length c.self.inside.harts.items) c.args.h c.index.result.now refl inside c.index.ensures in
+    let there : slice_get c.self.inside.harts.items c.args.h ≡ Some c.index.result.now =
+    slice_get_read c.self.inside.harts.items (length c.self.inside.harts.items) c.args.h c.index.result.now refl inside c.index.ensures in
     let running : is_some c.self.inside.devices.devices.stop ≡ false = search rules in
     let same : _ ≡ c.args.self.now.state = ap (λ (m : Machine). m.state) c.self.view_is in
-    let hart : c.set_lines.new.self ≡ with_lines_of c.replay_touch.new.self.devices c.args.h (after c.index.result.now (effect_of c.index.result.now c.in-Some.word) c.in-Some-replay_touch.loaded) =
-    c.set_lines.ensures ∙ ap (λ l. record c.finish.new.self { csrs = with_lines l c.finish.new.self.csrs }) c.lines.ensures.lines ∙ ap (with_lines_of c.replay_touch.new.self.devices c.args.h) c.finish.ensures.after in
-    let count : c.index_mut-in-Some-replay_touch.result.now ≡ slice_index c.self.inside.counts.items c.args.h = c.index_mut-in-Some-replay_touch.ensures.value ∙ get_or_default_zero c.self.inside.counts.items c.args.h _ (omega (arith, inside, c.self.invariant.counts_size)) in
-    let made = touch_state _ c.args.self.now.state c.args.h c.index_mut-in-Some-replay_touch.result.now c.in-Some-replay_touch.loaded c.in-Some.word c.args.input c.index.result.now c.set_lines.new.self c.in-Some.access c.replay_touch.new.self.devices same there running c.in-Some.ensures c.in-Some-replay_touch.ensures.devices hart count in
+    let hart : c.set_lines.new.self ≡ with_lines_of c.replay_touch.new.self.devices c.args.h
+    (after c.index.result.now (effect_of c.index.result.now c.in-Some.word) c.in-Some-replay_touch.loaded) =
+    c.set_lines.ensures ∙ ap (λ l. record c.finish.new.self { csrs = with_lines l c.finish.new.self.csrs }) c.lines.ensures.lines
+    ∙ ap (with_lines_of c.replay_touch.new.self.devices c.args.h) c.finish.ensures.after in
+    let count : c.index_mut-in-Some-replay_touch.result.now ≡ slice_index c.self.inside.counts.items c.args.h =
+    c.index_mut-in-Some-replay_touch.ensures.value
+    ∙ get_or_default_zero c.self.inside.counts.items c.args.h _ (omega (arith, inside, c.self.invariant.counts_size)) in
+    let made =
+    touch_state _ c.args.self.now.state c.args.h c.index_mut-in-Some-replay_touch.result.now c.in-Some-replay_touch.loaded c.in-Some.word c.args.input
+    c.index.result.now c.set_lines.new.self c.in-Some.access c.replay_touch.new.self.devices same there running c.in-Some.ensures
+    c.in-Some-replay_touch.ensures.devices hart count in
     sym (ap (λ o. unwrap_or o c.args.self.now.state) made)
 
 pub returns-in-None-replay_touch-clause-answer : goal.returns-in-None-replay_touch-clause-answer
 returns-in-None-replay_touch-clause-answer c =
     let inside : c.args.h < length c.self.inside.harts.items = search rules in
-    let there : slice_get c.self.inside.harts.items c.args.h ≡ Some c.index.result.now = slice_get_read c.self.inside.harts.items (length c.self.inside.harts.items) c.args.h c.index.result.now refl inside c.index.ensures in
+    let there : slice_get c.self.inside.harts.items c.args.h ≡ Some c.index.result.now =
+    slice_get_read c.self.inside.harts.items (length c.self.inside.harts.items) c.args.h c.index.result.now refl inside c.index.ensures in
     let running : is_some c.self.inside.devices.devices.stop ≡ false = search rules in
     let same : _ ≡ c.args.self.now.state = ap (λ (m : Machine). m.state) c.self.view_is in
-    let kept = touch_state_kept _ c.args.self.now.state c.args.h c.in-Some.word c.args.input c.index.result.now c.in-Some.access c.replay_touch.new.self.devices same there running c.in-Some.ensures c.in-None-replay_touch.ensures.devices in
+    let kept =
+    touch_state_kept _ c.args.self.now.state c.args.h c.in-Some.word c.args.input c.index.result.now c.in-Some.access c.replay_touch.new.self.devices same
+    there running c.in-Some.ensures c.in-None-replay_touch.ensures.devices in
     sym (ap is_some kept.0)
 
 pub returns-in-None-replay_touch-clause-state : goal.returns-in-None-replay_touch-clause-state
 returns-in-None-replay_touch-clause-state c =
     let inside : c.args.h < length c.self.inside.harts.items = search rules in
-    let there : slice_get c.self.inside.harts.items c.args.h ≡ Some c.index.result.now = slice_get_read c.self.inside.harts.items (length c.self.inside.harts.items) c.args.h c.index.result.now refl inside c.index.ensures in
+    let there : slice_get c.self.inside.harts.items c.args.h ≡ Some c.index.result.now =
+    slice_get_read c.self.inside.harts.items (length c.self.inside.harts.items) c.args.h c.index.result.now refl inside c.index.ensures in
     let running : is_some c.self.inside.devices.devices.stop ≡ false = search rules in
     let same : _ ≡ c.args.self.now.state = ap (λ (m : Machine). m.state) c.self.view_is in
-    let kept = touch_state_kept _ c.args.self.now.state c.args.h c.in-Some.word c.args.input c.index.result.now c.in-Some.access c.replay_touch.new.self.devices same there running c.in-Some.ensures c.in-None-replay_touch.ensures.devices in
+    let kept =
+    touch_state_kept _ c.args.self.now.state c.args.h c.in-Some.word c.args.input c.index.result.now c.in-Some.access c.replay_touch.new.self.devices same
+    there running c.in-Some.ensures c.in-None-replay_touch.ensures.devices in
     kept.1 ∙ sym (ap (λ o. unwrap_or o c.args.self.now.state) kept.0)
 
 pub returns-in-None-clause-answer : goal.returns-in-None-clause-answer
 returns-in-None-clause-answer c =
     let inside : c.args.h < length c.self.inside.harts.items = search rules in
-    let there : slice_get c.self.inside.harts.items c.args.h ≡ Some c.index.result.now = slice_get_read c.self.inside.harts.items (length c.self.inside.harts.items) c.args.h c.index.result.now refl inside c.index.ensures in
+    let there : slice_get c.self.inside.harts.items c.args.h ≡ Some c.index.result.now =
+    slice_get_read c.self.inside.harts.items (length c.self.inside.harts.items) c.args.h c.index.result.now refl inside c.index.ensures in
     let running : is_some c.self.inside.devices.devices.stop ≡ false = search rules in
     let same : _ ≡ c.args.self.now.state = ap (λ (m : Machine). m.state) c.self.view_is in
-    let none : next (Touch c.args.h c.args.input) c.args.self.now.state ≡ None = subst (λ z. next (Touch c.args.h c.args.input) z ≡ None) same (touch_no_access _ c.args.h c.args.input c.index.result.now there running c.in-None.ensures) in
+    let none : next (Touch c.args.h c.args.input) c.args.self.now.state ≡ None =
+    subst (λ z. next (Touch c.args.h c.args.input) z ≡ None) same
+    (touch_no_access _ c.args.h c.args.input c.index.result.now there running c.in-None.ensures) in
     sym (ap is_some none)
 
 pub returns-in-None-clause-state : goal.returns-in-None-clause-state
 returns-in-None-clause-state c =
     let inside : c.args.h < length c.self.inside.harts.items = search rules in
-    let there : slice_get c.self.inside.harts.items c.args.h ≡ Some c.index.result.now = slice_get_read c.self.inside.harts.items (length c.self.inside.harts.items) c.args.h c.index.result.now refl inside c.index.ensures in
+    let there : slice_get c.self.inside.harts.items c.args.h ≡ Some c.index.result.now =
+    slice_get_read c.self.inside.harts.items (length c.self.inside.harts.items) c.args.h c.index.result.now refl inside c.index.ensures in
     let running : is_some c.self.inside.devices.devices.stop ≡ false = search rules in
     let same : _ ≡ c.args.self.now.state = ap (λ (m : Machine). m.state) c.self.view_is in
-    let none : next (Touch c.args.h c.args.input) c.args.self.now.state ≡ None = subst (λ z. next (Touch c.args.h c.args.input) z ≡ None) same (touch_no_access _ c.args.h c.args.input c.index.result.now there running c.in-None.ensures) in
+    let none : next (Touch c.args.h c.args.input) c.args.self.now.state ≡ None =
+    subst (λ z. next (Touch c.args.h c.args.input) z ≡ None) same
+    (touch_no_access _ c.args.h c.args.input c.index.result.now there running c.in-None.ensures) in
     sym (ap (λ o. unwrap_or o c.args.self.now.state) none)
