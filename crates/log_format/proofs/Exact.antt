@@ -118,11 +118,35 @@ block_blames : {X : Type 0} (short : Bool) (bytes : List ℕ) (x : X) (bad : Bad
 block_blames {X = X} true bytes x bad e = let h = err_is {B = X} (length bytes, 1) bad e in omega (arith, ap (λ (z : Bad). z.0) h)
 block_blames {X = X} false bytes x bad e = absurd cc
 
+-- the two tests of a number, one after the other
+number_at-is : (w : Width) (rule : ℕ) (ok : ℕ → Bool) (bytes : List ℕ)
+    → number_at w rule ok bytes
+    ≡ cond (ltb (length bytes) (byte_len w)) (Err (length bytes, 1))
+    (cond (ok (from_le_bytes w (take (byte_len w) bytes))) (Ok (from_le_bytes w (take (byte_len w) bytes), drop (byte_len w) bytes)) (Err (length bytes, rule)))
+number_at-is w rule ok bytes = by (ltb (length bytes) (byte_len w))
+  where
+    n : ℕ
+    n = from_le_bytes w (take (byte_len w) bytes)
+
+    found : Result (ℕ × List ℕ) Bad
+    found = Ok (n, drop (byte_len w) bytes)
+
+    misfit : Result (ℕ × List ℕ) Bad
+    misfit = Err (length bytes, rule)
+
+    missing : Result (ℕ × List ℕ) Bad
+    missing = Err (length bytes, 1)
+
+    by : (short : Bool) → (cond short missing found >>= λ x. cond (ok x.0) (Ok x) misfit) ≡ cond short missing (cond (ok n) found misfit)
+    by true = refl
+    by false = refl
+
 pub number-exact : (w : Width) (limit rule : ℕ) (ok : ℕ → Bool) → IsWide w limit → IsExact (number w limit rule ok)
 number-exact w limit rule ok wide = record {
   takes = λ bytes x fits e.
       let n : ℕ = from_le_bytes w (take (byte_len w) bytes) in
-      let g = guard_ok (ltb (length bytes) (byte_len w)) (length bytes, 1) (cond (ok n) (Ok (n, drop (byte_len w) bytes)) (Err (length bytes, rule))) x e in
+      let g = guard_ok (ltb (length bytes) (byte_len w)) (length bytes, 1) (cond (ok n) (Ok (n, drop (byte_len w) bytes)) (Err (length bytes, rule))) x
+      (sym (number_at-is w rule ok bytes) ∙ e) in
       let h = guard_ended (ok n) (length bytes, rule) (n, drop (byte_len w) bytes) x g.1 in
       let long : byte_len w ≤ length bytes = ltb-false _ _ g.0 in
       let front : to_le_bytes w n ≡ take (byte_len w) bytes =
@@ -138,7 +162,7 @@ number-exact w limit rule ok wide = record {
       let long : ltb (length (to_le_bytes w n ++ rest)) (byte_len w) ≡ false = le-ltb _ _ (omega (arith, length-append (to_le_bytes w n) rest)) in
       rw (long, take_at (to_le_bytes w n) rest (byte_len w) len, drop_at (to_le_bytes w n) rest (byte_len w) len, wide.again n fits.0, fits.1) refl;
   blames = λ bytes bad fits e. number_blames w rule (ok (from_le_bytes w (take (byte_len w) bytes))) (ltb (length bytes) (byte_len w)) bytes
-      (from_le_bytes w (take (byte_len w) bytes), drop (byte_len w) bytes) bad e;
+      (from_le_bytes w (take (byte_len w) bytes), drop (byte_len w) bytes) bad (sym (number_at-is w rule ok bytes) ∙ e);
 }
 
 pub block-exact : (size : ℕ) → IsExact (block size)
@@ -162,7 +186,8 @@ block-exact size = record {
 pub number-passes : (w : Width) (rule : ℕ) (ok : ℕ → Bool) (bytes : List ℕ) (x : ℕ × List ℕ) → number_at w rule ok bytes ≡ Ok x → ok x.0 ≡ true
 number-passes w rule ok bytes x e =
     let n : ℕ = from_le_bytes w (take (byte_len w) bytes) in
-    let g = guard_ok (ltb (length bytes) (byte_len w)) (length bytes, 1) (cond (ok n) (Ok (n, drop (byte_len w) bytes)) (Err (length bytes, rule))) x e in
+    let g = guard_ok (ltb (length bytes) (byte_len w)) (length bytes, 1) (cond (ok n) (Ok (n, drop (byte_len w) bytes)) (Err (length bytes, rule))) x
+    (sym (number_at-is w rule ok bytes) ∙ e) in
     let h = guard_ended (ok n) (length bytes, rule) (n, drop (byte_len w) bytes) x g.1 in
     subst (λ (y : ℕ × List ℕ). ok y.0 ≡ true) h.1 h.0
 

@@ -17,12 +17,15 @@ pub record Format (A : Type 0) : Type 1 where
   pub spell : A → List ℕ
   pub Fits : A → Type 0
 
--- a number that is there whole (else rule 1) and passes the test (else its rule)
-abbrev pub number_at : Width → ℕ → (ℕ → Bool) → List ℕ → Result (ℕ × List ℕ) Bad
-number_at w rule ok bytes =
+-- a number that is there whole (else rule 1)
+abbrev pub whole_at : Width → List ℕ → Result (ℕ × List ℕ) Bad
+whole_at w bytes =
     if nat_lt (length bytes) (byte_len w) then Err (length bytes, 1)
-    else if ok (from_le_bytes w (take (byte_len w) bytes)) then Ok (from_le_bytes w (take (byte_len w) bytes), drop (byte_len w) bytes)
-    else Err (length bytes, rule)
+    else Ok (from_le_bytes w (take (byte_len w) bytes), drop (byte_len w) bytes)
+
+-- and passes the test (else its rule)
+abbrev pub number_at : Width → ℕ → (ℕ → Bool) → List ℕ → Result (ℕ × List ℕ) Bad
+number_at w rule ok bytes = whole_at w bytes >>= λ x. if ok x.0 then Ok x else Err (length bytes, rule)
 
 abbrev pub number : Width → ℕ → ℕ → (ℕ → Bool) → Format ℕ
 number w limit rule ok = record { read = number_at w rule ok; spell = to_le_bytes w; Fits = λ n. (n < limit) × (ok n ≡ true) }
