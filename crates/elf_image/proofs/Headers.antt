@@ -1,11 +1,9 @@
 -- The program headers that are left once some were read.
-use Rattle.std.proofs.Common.{◌∙◌, ℕ, ◌≡◌, ◌+◌, ◌-◌, ◌*◌, ◌<◌, ◌≤◌, List, [], ◌∷◌, refl, sym, arith, suc}
+use Rattle.std.proofs.Common.{◌∙◌, ℕ, ◌≡◌, ◌+◌, ◌-◌, ◌*◌, ◌<◌, ◌≤◌, List, [], ◌∷◌, refl, sym, ap, arith, zero, suc}
 use Rattle.std.proofs.Common.{Bool, true, false}
-use Rattle.std.specs.Prelude.{◌||◌}
-use Rattle.std.proofs.lemmas.Bool.{false≢true}
+use Rattle.std.proofs.lemmas.Bool.{or_parts}
 use Rattle.std.specs.List.{list_any}
-use Rattle.elf_image.specs.Loading.{loaded, placed}
-use Rattle.elf_image.specs.Elf.{segment_at, segments_from, table, headers}
+use Rattle.elf_image.specs.Elf.{segment_at, segments_from, segments, table, headers}
 use Rattle.elf_image.specs.declared.elf.Segment.{Segment}
 
 abbrev pub rest : List ℕ → ℕ → List Segment
@@ -20,20 +18,23 @@ rest_step file index l = from_step file (table file + 32 * index) (headers file 
 pub rest_end : (file : List ℕ) (index : ℕ) → headers file ≤ index → rest file index ≡ []
 rest_end file index l = let e : headers file - index ≡ 0 = omega (arith, l) in rw e refl
 
-neither : (a b : Bool) → (a || b) ≡ false → (a ≡ false) × (b ≡ false)
-neither true b e = absurd (false≢true (sym e))
-neither false b e = (refl, e)
-
 pub any_here : (p : Segment → Bool) (file : List ℕ) (index : ℕ) (s : Segment) → index < headers file → s ≡ segment_at file (table file + 32 * index) → p s ≡ true → list_any p (rest file index) ≡ true
 any_here p file index s l is e = rw (rest_step file index l) (rw (sym is) (rw e refl))
 
 pub any_later : (p : Segment → Bool) (file : List ℕ) (index : ℕ) (s : Segment) → index < headers file → s ≡ segment_at file (table file + 32 * index) → p s ≡ false → list_any p (rest file index) ≡ list_any p (rest file (index + 1))
 any_later p file index s l is e = rw (rest_step file index l) (rw (sym is) (rw e refl))
 
--- none that is left passes, so this one doesn't, and none behind it
-pub none_here : (p : Segment → Bool) (file : List ℕ) (index : ℕ) (s : Segment) → index < headers file → s ≡ segment_at file (table file + 32 * index) → list_any p (rest file index) ≡ false
-    → (p s ≡ false) × (list_any p (rest file (index + 1)) ≡ false)
-none_here p file index s l is e = neither (p s) (list_any p (rest file (index + 1))) (sym (rw (rest_step file index l) (rw (sym is) refl)) ∙ e)
+pub rest_all : (file : List ℕ) → rest file 0 ≡ segments file
+rest_all file =
+    let from : table file + 32 * 0 ≡ table file = omega arith in
+    let all : headers file - 0 ≡ headers file = omega arith in
+    ap (λ k. segments_from file k (headers file - 0)) from ∙ ap (segments_from file (table file)) all
 
-pub loaded_here : (file : List ℕ) (index : ℕ) (s : Segment) (memory : List ℕ) → index < headers file → s ≡ segment_at file (table file + 32 * index) → loaded file (rest file index) memory ≡ loaded file (rest file (index + 1)) (placed file s memory)
-loaded_here file index s memory l is = rw (rest_step file index l) (rw (sym is) refl)
+none_from : (p : Segment → Bool) (file : List ℕ) (at n k place : ℕ) → k < n → place ≡ at + 32 * k → list_any p (segments_from file at n) ≡ false → p (segment_at file place) ≡ false
+none_from p file at zero k place l e none = absurd (omega (arith, l))
+none_from p file at (suc n) zero place l e none = let here : place ≡ at = omega (arith, e) in ap (λ k. p (segment_at file k)) here ∙ (or_parts _ _ none).0
+none_from p file at (suc n) (suc k) place l e none = none_from p file (at + 32) n k place (omega (arith, l)) (omega (arith, e)) (or_parts (p (segment_at file at)) _ none).1
+
+-- where none passes, the one at a place doesn't
+pub none_at : (p : Segment → Bool) (file : List ℕ) (index : ℕ) → index < headers file → list_any p (segments file) ≡ false → p (segment_at file (table file + 32 * index)) ≡ false
+none_at p file index l none = none_from p file (table file) (headers file) index _ l refl none

@@ -1,9 +1,10 @@
 -- An image: the memory that a board starts with, and where its harts start.
 use Rattle.std.specs.Prelude.{ℕ, ◌≡◌, ◌+◌, ◌*◌, ◌%◌, ◌≤◌, List, ◌++◌, length}
 use Rattle.std.specs.Int.{w32, to_le_bytes}
+use Rattle.rv_words.specs.Limits.{page_bytes, most_pages}
 use Rattle.sha2.specs.Sha256.{sha256}
 
--- `pages` counts 4,096 bytes each; `unit` is the number of bytes that are owned together
+-- `pages` counts `page_bytes` each; `unit` is the number of bytes that are owned together
 pub record Image : Type 0 where
   pub entry : ℕ
   pub pages : ℕ
@@ -12,13 +13,13 @@ pub record Image : Type 0 where
 
 -- memory begins at 0x80000000 (docs/board.md)
 abbrev pub memory_size : ℕ → ℕ
-memory_size pages = 4096 * pages
+memory_size pages = page_bytes * pages
 
 -- an image of a board: its bytes fill the memory, and its entry is a multiple of 4 in memory
 pub record IsWhole (image : Image) : Type 0 where
   pub least_pages : 1 ≤ image.pages
-  pub most_pages : image.pages ≤ 4096
-  pub unit : image.unit ≡ 4096
+  pub most_pages : image.pages ≤ most_pages
+  pub unit : image.unit ≡ page_bytes
   pub size : length image.bytes ≡ memory_size image.pages
   pub aligned : image.entry % 4 ≡ 0
   pub from : 0x80000000 ≤ image.entry

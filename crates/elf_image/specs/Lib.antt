@@ -2,3 +2,5 @@ pub mod Image
 pub mod Elf
 pub mod Rules
 pub mod Loading
+pub mod Marks
+pub mod Layers

@@ -1,5 +1,6 @@
 -- The image that a file gives.
 use Rattle.std.specs.Prelude.{ℕ, ◌+◌, ◌-◌, ◌&&◌, nat_lt, Bool, List, [], ◌∷◌, ◌++◌, length, replicate, slice_range, if◌then◌else◌}
+use Rattle.rv_words.specs.Limits.{page_bytes}
 use Rattle.rv_words.specs.Memory.{put}
 use Rattle.elf_image.specs.Image.{Image, memory_size}
 use Rattle.elf_image.specs.Elf.{is_elf, entry, segments, is_loadable}
@@ -36,6 +37,6 @@ image_of pages file =
     record {
       entry = if is_elf file then entry file else 0x80000000;
       pages = pages;
-      unit = 4096;
+      unit = page_bytes;
       bytes = if is_elf file then elf_memory pages file else raw_memory pages file;
     }

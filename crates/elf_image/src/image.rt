@@ -1,8 +1,10 @@
 //! An image of a board's memory.
 
 ghost use Rattle.std.specs.Prelude.{◌≡◌, ◌%◌, ◌≤◌, ◌+◌, length};
+ghost use Rattle.rv_words.specs.Limits.{page_bytes};
 ghost use Rattle.elf_image.specs.Image.{IsWhole, start_digest, memory_size};
 
+use rv_words::PAGE_BYTES;
 use sha2::{Digest, Sha256};
 use std::marker::Model;
 
@@ -29,13 +31,13 @@ impl Model for Image {
 impl Image {
     /// The image of these bytes.
     pub(crate) fn of(entry: u32, pages: u16, bytes: Vec<u8>) -> Image
-        requires { IsWhole (record { entry = entry; pages = pages; unit = 4096; bytes = bytes.items }) }
-        ensures { result ≡ record { entry = entry; pages = pages; unit = 4096; bytes = bytes.items } }
+        requires { IsWhole (record { entry = entry; pages = pages; unit = page_bytes; bytes = bytes.items }) }
+        ensures { result ≡ record { entry = entry; pages = pages; unit = page_bytes; bytes = bytes.items } }
     {
         Image {
             entry,
             pages,
-            unit: 4096,
+            unit: PAGE_BYTES,
             bytes,
         }
     }

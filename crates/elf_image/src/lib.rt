@@ -3,7 +3,9 @@
 
 mod elf;
 mod image;
+mod layer;
 mod loading;
+mod marks;
 mod read;
 #[cfg(test)]
 mod tests;

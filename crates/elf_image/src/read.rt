@@ -2,12 +2,14 @@
 
 ghost use Rattle.std.specs.Prelude.{◌≡◌, ◌+◌, ◌*◌, ◌≤◌, ◌<◌, true, false, length, Some, None};
 ghost use Rattle.std.specs.List.{list_any};
+ghost use Rattle.rv_words.specs.Limits.{most_pages};
 ghost use Rattle.elf_image.specs.Elf.{is_elf, table, headers, segments, segment_at};
 ghost use Rattle.elf_image.specs.Rules.{Reads, broken_rule, table_is_broken, passes_file, leaves_memory, passes_memory, entry_is_broken};
 
 use crate::elf::{HEADER_SIZE, SEGMENT_SIZE, Segment, half_at, is_elf, segment_at, word_at};
 use crate::image::Image;
 use crate::loading::{elf_image, raw_image};
+use rv_words::PAGE_BYTES;
 use std::alloc::Global;
 use thiserror::Error;
 
@@ -24,11 +26,12 @@ pub enum ImageError {
 /// The address at which memory begins.
 pub const BASE: u32 = 0x8000_0000;
 
-/// The image of a file, ELF32 or raw, for a board with so many pages of 4,096 bytes. It takes the
-/// memory of those pages and no more, whatever the file claims.
+/// The image of a file, ELF32 or raw, for a board with so many pages of 4,096 bytes. Whatever the file claims,
+/// it takes the memory of those pages, and while it reads an ELF file a quarter as much beside (two bits a byte);
+/// and its time grows with the file's bytes and the memory's, not with one times the other.
 pub fn read_image(alloc: Global, file: &[u8], pages: u16) -> Result<Image, ImageError>
     requires least { 1 ≤ pages }
-    requires most { pages ≤ 4096 }
+    requires most { pages ≤ most_pages }
     ensures { Reads pages file.now result }
 {
     if !is_elf(file) {
@@ -44,7 +47,7 @@ pub fn read_image(alloc: Global, file: &[u8], pages: u16) -> Result<Image, Image
 fn leaves_memory(pages: u16, address: u32, size: u32) -> bool
     ensures { result ≡ leaves_memory pages address size }
 {
-    let end = u64::from(BASE) + u64::from(pages) * 4096;
+    let end = u64::from(BASE) + u64::from(pages) * u64::from(PAGE_BYTES);
     address < BASE || u64::from(address) + u64::from(size) > end
 }
 
