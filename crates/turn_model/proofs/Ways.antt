@@ -8,12 +8,12 @@ use Rattle.replay_model.specs.Items.{Item, Ended, Move, Makes}
 use Rattle.replay_model.specs.Journal.{left_for}
 use Rattle.crew_recording.specs.Recording.{Recording, stream_in}
 use Rattle.crew_recording.specs.Allowed.{IsPolled}
-use Rattle.crew_recording.proofs.Fitting.{FitsAt, fits_all}
-use Rattle.crew_recording.proofs.Ordered.{IsOrdered}
+use Rattle.crew_recording.proofs.Tables.{FitsAt, fits_all}
+use Rattle.crew_recording.proofs.OrderedRecordings.{IsOrdered}
 use Rattle.crew_recording.proofs.Behind.{ordered_all}
 use Rattle.crew_recording.proofs.Together.{Made, made_after}
 use Rattle.turn_model.specs.Board.{Board, Order, Go, Hold, Rest, stream, wanted}
-use Rattle.turn_model.specs.Entering.{Way, On, Ends, Nowhere, goes}
+use Rattle.turn_model.specs.Ways.{Way, On, Ends, Nowhere, goes}
 use Rattle.turn_model.specs.Faithful.{IsFaithful}
 
 abbrev pub recording_of : {S : Type 0} → Board S → Recording S
@@ -59,7 +59,7 @@ meant_then wants h [] ys one two = two
 meant_then wants h (x ∷ xs) ys one two = (one.0, meant_then wants h xs ys one.1 two)
 
 module _ {S V : Type 0} (flat : Flat S V) (harts pages limit : ℕ) (Good : S → Type 0) (faithful : IsFaithful flat harts pages Good) where
-  pub record IsSound (b : Board S) : Type 0 where
+  pub record IsSoundBoard (b : Board S) : Type 0 where
     pub ordered : IsOrdered flat harts Good faithful.steady faithful.timed pages limit (recording_of b)
     pub fits : FitsAt flat harts pages b.at
     pub orders_size : length b.orders ≡ harts
@@ -80,15 +80,17 @@ module _ {S V : Type 0} (flat : Flat S V) (harts pages limit : ℕ) (Good : S �
   OrderIs h c (Hold page g) = Unit {0}
   OrderIs h c Rest = Unit {0}
 
-  pub sound_after : (h : ℕ) (b c : Board S) → IsSound b → Went h b c → IsSound c
+  pub sound_after : (h : ℕ) (b c : Board S) → IsSoundBoard b → Went h b c → IsSoundBoard c
   sound_after h b c sound went = record {
-    ordered = ordered_all flat harts Good faithful.steady faithful.timed pages limit (recording_of b) (recording_of c) (by_one h went.items) went.made.0 went.made.1 sound.ordered;
+    ordered = ordered_all flat harts Good faithful.steady faithful.timed pages limit (recording_of b) (recording_of c)
+        (by_one h went.items) went.made.0 went.made.1 sound.ordered;
     fits = fits_all flat harts pages (recording_of b) (recording_of c) (by_one h went.items) went.made.0 sound.fits;
     orders_size = ap (λ (xs : List (Option Order)). length xs) went.orders ∙ sound.orders_size;
   }
 
   -- what is changed beside the replay state and the streams is no item
-  pub aside : (h : ℕ) (b c : Board S) → recording_of b ≡ recording_of c → c.journal ≡ b.journal → c.orders ≡ b.orders → ((g : ℕ) → g ≢ h → wanted c g ≡ wanted b g) → Went h b c
+  pub aside : (h : ℕ) (b c : Board S) → recording_of b ≡ recording_of c → c.journal ≡ b.journal → c.orders ≡ b.orders
+      → ((g : ℕ) → g ≢ h → wanted c g ≡ wanted b g) → Went h b c
   aside h b c same journal orders others = record {
     items = [];
     made = (same, tt, tt);
@@ -131,8 +133,8 @@ module _ {S V : Type 0} (flat : Flat S V) (harts pages limit : ℕ) (Good : S �
   nowhere (step ∷ steps) = refl
 
   -- further steps behind a way
-  pub further : (h : ℕ) (P Q : Board S → Type 0) (b : Board S) (steps : List (Board S → Way S)) (way : Way S) → IsSound b → Comes h P b way
-      → ((c : Board S) → IsSound c → P c → Comes h Q c (goes steps (On c))) → Comes h Q b (goes steps way)
+  pub further : (h : ℕ) (P Q : Board S → Type 0) (b : Board S) (steps : List (Board S → Way S)) (way : Way S) → IsSoundBoard b → Comes h P b way
+      → ((c : Board S) → IsSoundBoard c → P c → Comes h Q c (goes steps (On c))) → Comes h Q b (goes steps way)
   further h P Q b steps (On c) sound comes more = shifts h Q b c (goes steps (On c)) comes.0 (more c (sound_after h b c sound comes.0) comes.1)
   further h P Q b steps (Ends order c) sound comes more = subst (Comes h Q b) (sym (ended order c steps)) comes
   further h P Q b steps Nowhere sound comes more = subst (Comes h Q b) (sym (nowhere steps)) tt

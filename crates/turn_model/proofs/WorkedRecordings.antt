@@ -22,6 +22,7 @@ are_recorded = record {
   smallest = refl;
   cut = refl;
   full = refl;
+  sent = refl;
   fault = refl;
   no_moves = refl;
   race = refl;

@@ -1,16 +1,17 @@
 -- The recorder's board (docs/recorder.md).
-use Rattle.std.specs.Prelude.{ℕ, ◌++◌, ◌∷◌, ◌==◌, ◌||◌, List, [], Bool, map, length, replicate, slice_get, Option, Some, None, is_some, unwrap_or}
-use Rattle.std.specs.List.{list_all, enumerate_from}
+use Rattle.std.specs.Prelude.{ℕ, ◌==◌, ◌||◌, List, [], Bool, length, replicate, slice_get, Option, Some, None, is_some, unwrap_or}
+use Rattle.std.specs.List.{list_all}
+use Rattle.rv_words.specs.Limits.{page_bytes}
 use Rattle.rv_words.specs.declared.shared.Mode.{Mode}
 use Rattle.rv_words.specs.declared.shared.Cause.{Cause}
 use Rattle.rv_words.specs.declared.shared.Cause.TheVariants.{Limit}
 use Rattle.log_entry.specs.declared.log.Entry.{Entry}
-use Rattle.log_entry.specs.declared.log.Entry.TheVariants.{End}
 use Rattle.log_entry.specs.declared.log.Log.{Log}
 use Rattle.outside.specs.declared.console.Asked.{Asked}
 use Rattle.orders_law.specs.Orders.{below}
 use Rattle.replay_model.specs.State.{Replay, start}
-use Rattle.turn_model.specs.Machine.{Machine}
+use Rattle.crew_recording.specs.Recording.{stream_in, with_ends}
+use Rattle.turn_model.specs.Recordable.{Recordable}
 
 -- what a hart is told at the end of its turn: to go on up to a count, to wait for a page that another hart holds or is to have
 -- first, or to rest
@@ -21,7 +22,7 @@ pub data Order : Type 0 where
 
 -- what console and clock have still to give in the call: the console's answers, the number of bytes that it takes, and the
 -- clock's answers
-pub record Outside : Type 0 where
+pub record Supply : Type 0 where
   pub answers : List Asked
   pub takes : ℕ
   pub times : List ℕ
@@ -45,15 +46,19 @@ pub record Board (S : Type 0) : Type 0 where
   pub orders : List (Option Order)
   pub favoured : ℕ
   pub closed : Option Cause
-  pub outside : Outside
+  pub supply : Supply
+
+-- bytes owned together, in each recording by these terms
+abbrev pub unit_in : Terms → ℕ
+unit_in terms = page_bytes
 
 abbrev pub log_with : Terms → List (List Entry) → Cause → Log
 log_with terms streams cause =
     record { pages = terms.pages; limit = terms.limit; image = terms.image; streams = streams; cause = cause }
 
 -- the board of so many harts before any turn
-abbrev pub board_at_start : {S : Type 0} → Terms → ℕ → S → Outside → Board S
-board_at_start terms harts first outside = record {
+abbrev pub board_at_start : {S : Type 0} → Terms → ℕ → S → Supply → Board S
+board_at_start terms harts first supply = record {
   at = start (log_with terms (replicate harts []) Limit) first;
   streams = replicate harts [];
   journal = [];
@@ -62,14 +67,14 @@ board_at_start terms harts first outside = record {
   orders = replicate harts None;
   favoured = 0;
   closed = None;
-  outside = outside;
+  supply = supply;
 }
 
 abbrev pub harts : {S : Type 0} → Board S → List ℕ
 harts b = below (length b.streams)
 
 abbrev pub stream : {S : Type 0} → Board S → ℕ → List Entry
-stream b h = unwrap_or (slice_get b.streams h) []
+stream b h = stream_in b.streams h
 
 abbrev pub wanted : {S : Type 0} → Board S → ℕ → Option (ℕ × Mode)
 wanted b h = unwrap_or (slice_get b.wants h) None
@@ -81,7 +86,7 @@ last_order b h = unwrap_or (slice_get b.orders h) None
 abbrev pub closes : {S : Type 0} → Cause → Board S → Board S
 closes cause b = record b { closed = Some (unwrap_or b.closed cause) }
 
-module _ {S V : Type 0} (machine : Machine S V) (terms : Terms) where
+module _ {S V : Type 0} (machine : Recordable S V) (terms : Terms) where
   abbrev pub count : Board S → ℕ → ℕ
   count b h = machine.flat.count b.at.flat h
 
@@ -93,7 +98,7 @@ module _ {S V : Type 0} (machine : Machine S V) (terms : Terms) where
 
   -- each stream with an End at its hart's count
   abbrev pub ended_streams : Board S → List (List Entry)
-  ended_streams b = map (λ s. s.1 ++ End (count b s.0) ∷ []) (enumerate_from 0 b.streams)
+  ended_streams b = with_ends (count b) b.streams
 
   -- the log, were the run to end here
   abbrev pub log_of : Board S → Log

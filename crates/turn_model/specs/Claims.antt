@@ -6,7 +6,7 @@ use Rattle.rv_words.specs.declared.shared.Mode.{Mode}
 use Rattle.rv_words.specs.Modes.{conflicts}
 use Rattle.log_entry.specs.Parts.{strength, conflict, is_some_and}
 use Rattle.order_rules.specs.Holders.{held}
-use Rattle.turn_model.specs.Machine.{Machine}
+use Rattle.turn_model.specs.Recordable.{Recordable}
 use Rattle.turn_model.specs.Board.{Board, Terms, harts, wanted, is_at_limit}
 
 -- how far a hart comes behind the favoured one, round the board
@@ -30,7 +30,7 @@ rival b h n = find (λ g. stands_before b g h && is_some_and (wanted b g) (λ w.
 abbrev pub kept_by : {S : Type 0} → Board S → ℕ → ℕ × Mode → Option ℕ
 kept_by b h n = option_or (clash b h n) (rival b h n)
 
-module _ {S V : Type 0} (machine : Machine S V) (terms : Terms) where
+module _ {S V : Type 0} (machine : Recordable S V) (terms : Terms) where
   -- what the next move needs, as far as it is known: nothing behind a fetch page that isn't held
   abbrev pub known : Board S → ℕ → List (ℕ × Mode) → List (ℕ × Mode)
   known b h [] = []

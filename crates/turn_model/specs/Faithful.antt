@@ -10,7 +10,7 @@ use Rattle.device_board.specs.Recording.{bytes_given}
 use Rattle.replay_model.specs.Flat.{Flat}
 use Rattle.crew_recording.specs.Recording.{IsSteady}
 use Rattle.crew_recording.specs.Allowed.{IsTimed}
-use Rattle.turn_model.specs.Machine.{Machine}
+use Rattle.turn_model.specs.Recordable.{Recordable}
 
 abbrev pub AllBelow : ℕ → List (ℕ × Mode) → Type 0
 AllBelow pages [] = Unit {0}
@@ -32,13 +32,15 @@ pub record IsFaithful {S V : Type 0} (flat : Flat S V) (harts pages : ℕ) (Good
   pub steady : IsSteady flat harts Good
   pub timed : IsTimed flat Good
   pub inside : (s : S) (h : ℕ) → Good s → AllBelow pages (flat.need s h)
-  pub touches : (s t : S) (h : ℕ) (input : Input) → flat.next s (Touch h input) ≡ Some t → (flat.is_at_device s h ≡ true) × (flat.suits s h input ≡ true) × (flat.is_stopped s ≡ false)
+  pub touches : (s t : S) (h : ℕ) (input : Input) → flat.next s (Touch h input) ≡ Some t
+      → (flat.is_at_device s h ≡ true) × (flat.suits s h input ≡ true) × (flat.is_stopped s ≡ false)
   pub stops : (s t : S) (act : Act) → is_access act ≡ false → flat.next s act ≡ Some t → flat.is_stopped t ≡ flat.is_stopped s
   pub sends : (s t : S) (act : Act) → is_access act ≡ false → flat.next s act ≡ Some t → flat.sent t ≡ flat.sent s
   pub times : (s t : S) (act : Act) → time_in act ≡ None → flat.next s act ≡ Some t → flat.time t ≡ flat.time s
   pub polls : (s t : S) (h time : ℕ) → flat.next s (Poll h time) ≡ Some t → flat.is_stopped s ≡ false
 
 -- a Touch sends as many bytes as its access gives to the console
-abbrev pub AccessesSend : {S V : Type 0} → Machine S V → Type 0
-AccessesSend {S} machine = (s t : S) (h : ℕ) (word : DeviceWord) (store : Option ℕ) (input : Input) → machine.access s h ≡ Some (word, store) → machine.flat.next s (Touch h input) ≡ Some t
+abbrev pub AccessesSend : {S V : Type 0} → Recordable S V → Type 0
+AccessesSend {S} machine = (s t : S) (h : ℕ) (word : DeviceWord) (store : Option ℕ) (input : Input) → machine.access s h ≡ Some (word, store)
+    → machine.flat.next s (Touch h input) ≡ Some t
     → length (machine.flat.sent t) ≡ length (machine.flat.sent s) + length (bytes_given word store)

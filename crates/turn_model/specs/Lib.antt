@@ -1,7 +1,7 @@
-pub mod Machine
+pub mod Recordable
 pub mod Board
 pub mod Claims
-pub mod Entering
+pub mod Ways
 pub mod Steps
 pub mod Turn
 pub mod Lists

@@ -5,8 +5,8 @@ use Rattle.rv_words.specs.declared.shared.Cause.TheVariants.{Cut}
 use Rattle.log_entry.specs.declared.log.Log.{Log}
 use Rattle.replay_model.specs.State.{Replay}
 use Rattle.replay_model.specs.Items.{Move, goes, verdict_on}
-use Rattle.turn_model.specs.Machine.{Machine}
-use Rattle.turn_model.specs.Board.{Board, Order, Go, Outside, Terms, harts, last_order, closes, count, is_over, log_of}
+use Rattle.turn_model.specs.Recordable.{Recordable}
+use Rattle.turn_model.specs.Board.{Board, Order, Go, Supply, Terms, harts, last_order, closes, count, is_over, log_of}
 use Rattle.turn_model.specs.Turn.{turn}
 
 -- what a recording comes to: the log, the journal, the turns, the flat state at the end, and what console and clock have still to
@@ -16,9 +16,9 @@ pub record Recorded (S : Type 0) : Type 0 where
   pub journal : List (ℕ × ℕ)
   pub turns : List (ℕ × ℕ)
   pub ended : S
-  pub left : Outside
+  pub left : Supply
 
-module _ {S V : Type 0} (machine : Machine S V) (terms : Terms) where
+module _ {S V : Type 0} (machine : Recordable S V) (terms : Terms) where
   -- of so many further Runs of a hart at most, how many need only pages held so and touch no device
   abbrev pub leg : ℕ → ℕ → Replay S → ℕ
   leg h zero s = 0
@@ -41,7 +41,7 @@ module _ {S V : Type 0} (machine : Machine S V) (terms : Terms) where
   cut b = if is_over machine terms b then b else closes Cut b
 
   abbrev pub comes_to : Board S → Recorded S
-  comes_to b = record { log = log_of machine terms b; journal = b.journal; turns = b.turns; ended = b.at.flat; left = b.outside }
+  comes_to b = record { log = log_of machine terms b; journal = b.journal; turns = b.turns; ended = b.at.flat; left = b.supply }
 
   -- behind the list the board is cut, unless it is over, and each hart has a turn without moves
   abbrev pub closed_after : Board S → Option (Board S)

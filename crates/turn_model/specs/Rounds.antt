@@ -1,7 +1,7 @@
 -- Recordings in rounds (docs/recorder.md).
 use Rattle.std.specs.Prelude.{ℕ, zero, suc, ◌≡◌, ◌+◌, ◌%◌, ◌==◌, not, Bool, true, false, List, [], ◌∷◌, map, length, Option, Some, None, if◌then◌else◌}
 use Rattle.std.specs.Option.{option_and_then}
-use Rattle.turn_model.specs.Machine.{Machine}
+use Rattle.turn_model.specs.Recordable.{Recordable}
 use Rattle.turn_model.specs.Board.{Board, Terms, harts, is_over}
 use Rattle.turn_model.specs.Turn.{turn}
 use Rattle.turn_model.specs.Lists.{Recorded, whole_leg, comes_to}
@@ -13,7 +13,7 @@ round_from r b = map (λ i. (r + i) % length b.streams) (harts b)
 abbrev pub with_favoured : {S : Type 0} → ℕ → Board S → Board S
 with_favoured r b = record b { favoured = r % length b.streams }
 
-module _ {S V : Type 0} (machine : Machine S V) (terms : Terms) where
+module _ {S V : Type 0} (machine : Recordable S V) (terms : Terms) where
   -- a turn of each of these harts, with the round's hart favoured before it, and with the hart's leg where all had one since
   -- their last turns
   abbrev pub sweep : ℕ → Bool → List ℕ → Board S → Option (Board S)
@@ -32,7 +32,8 @@ module _ {S V : Type 0} (machine : Machine S V) (terms : Terms) where
   -- behind the last round a turn of each hart that has moved since its last one
   abbrev pub last_turns : List ℕ → Board S → Option (Board S)
   last_turns [] b = Some b
-  last_turns (h ∷ hs) b = option_and_then (last_turns hs) (if whole_leg machine terms h b == 0 then Some b else turn machine terms h (whole_leg machine terms h b) b)
+  last_turns (h ∷ hs) b = option_and_then (last_turns hs)
+      (if whole_leg machine terms h b == 0 then Some b else turn machine terms h (whole_leg machine terms h b) b)
 
   -- rounds until the board is over, and the last turns, lead from a board to this recording
   pub record IsRecordedInRounds (b : Board S) (r : Recorded S) : Type 0 where

@@ -1,6 +1,8 @@
 -- The steps of a turn, in their order (docs/recorder.md).
-use Rattle.std.specs.Prelude.{ℕ, zero, suc, ◌+◌, ◌*◌, ◌/◌, ◌%◌, ◌==◌, ◌&&◌, ◌||◌, not, nat_lt, max, min, Bool, List, [], ◌∷◌, map, length, slice_index, slice_set, Option, Some, None, is_some, if◌then◌else◌}
+use Rattle.std.specs.Prelude.{ℕ, zero, suc, ◌+◌, ◌-◌, ◌*◌, ◌/◌, ◌%◌, ◌==◌, ◌&&◌, ◌||◌, not, nat_lt, max, min, Bool, List, [], ◌∷◌, map, length, slice_index}
+use Rattle.std.specs.Prelude.{slice_set, Option, Some, None, is_some, if◌then◌else◌}
 use Rattle.std.specs.Option.{option_map, option_and_then}
+use Rattle.rv_words.specs.Limits.{poll_distance}
 use Rattle.rv_words.specs.declared.shared.Mode.{Mode}
 use Rattle.rv_words.specs.declared.shared.Input.{Input}
 use Rattle.rv_words.specs.declared.shared.Input.TheVariants.{Nothing}
@@ -18,11 +20,11 @@ use Rattle.order_rules.specs.Holders.{held}
 use Rattle.replay_model.specs.State.{Replay}
 use Rattle.replay_model.specs.Items.{Move, goes, verdict_on}
 use Rattle.replay_model.specs.Journal.{left_for}
-use Rattle.turn_model.specs.Machine.{Machine}
-use Rattle.turn_model.specs.Board.{Board, Go, Hold, Rest, Outside, Terms, harts, stream, wanted, closes, count, is_at_limit, log_of}
+use Rattle.turn_model.specs.Recordable.{Recordable}
+use Rattle.turn_model.specs.Board.{Board, Go, Hold, Rest, Supply, Terms, harts, stream, wanted, closes, count, is_at_limit, log_of}
 use Rattle.turn_model.specs.Claims.{stands_before, holds_so, kept_by, needed, claims_against}
-use Rattle.turn_model.specs.Entering.{Way, On, Ends, Nowhere, on, with_room, entered}
-use Rattle.turn_model.specs.Entering as ways
+use Rattle.turn_model.specs.Ways.{Way, On, Ends, Nowhere, on, with_room, entered}
+use Rattle.turn_model.specs.Ways as ways
 
 -- the favoured hart is the one after h
 abbrev pub passes_favour : {S : Type 0} → ℕ → Board S → Board S
@@ -35,34 +37,34 @@ abbrev pub next_number : {S : Type 0} → Board S → ℕ → ℕ
 next_number b page = slice_index b.at.cursor.numbers page
 
 -- what the console answers an access, where what it has left covers this
-abbrev pub console_gives : DeviceWord → Option ℕ → Outside → Option (Asked × Outside)
+abbrev pub console_gives : DeviceWord → Option ℕ → Supply → Option (Asked × Supply)
 console_gives Rx None o = first o.answers where
-  first : List Asked → Option (Asked × Outside)
+  first : List Asked → Option (Asked × Supply)
   first [] = None
   first (answer ∷ answers) = Some (answer, record o { answers = answers })
 console_gives Tx (Some v) o = one o.takes where
-  one : ℕ → Option (Asked × Outside)
+  one : ℕ → Option (Asked × Supply)
   one zero = None
   one (suc takes) = Some (said.Nothing, record o { takes = takes })
 console_gives word store o = Some (said.Nothing, o)
 
-abbrev pub clock_answers : List ℕ → Outside → Option (ℕ × Outside)
+abbrev pub clock_answers : List ℕ → Supply → Option (ℕ × Supply)
 clock_answers [] o = None
 clock_answers (time ∷ times) o = Some (time, record o { times = times })
 
 -- what the clock answers an access: it is asked for a load of a half of mtime alone
-abbrev pub clock_gives : DeviceWord → Option ℕ → Outside → Option (ℕ × Outside)
+abbrev pub clock_gives : DeviceWord → Option ℕ → Supply → Option (ℕ × Supply)
 clock_gives TimeLow None o = clock_answers o.times o
 clock_gives TimeHigh None o = clock_answers o.times o
 clock_gives word store o = Some (0, o)
 
--- the least multiple of 4,096, not below the count, that has no Poll yet: no greater one has
+-- the least count at which a Poll is due, not below this one, that has none yet: no greater one has
 abbrev pub next_poll : ℕ → List Entry → ℕ
-next_poll count entries = from ((count + 4095) / 4096 * 4096) where
+next_poll count entries = from ((count + (poll_distance - 1)) / poll_distance * poll_distance) where
   from : ℕ → ℕ
-  from due = if has_poll entries due then due + 4096 else due
+  from due = if has_poll entries due then due + poll_distance else due
 
-module _ {S V : Type 0} (machine : Machine S V) (terms : Terms) where
+module _ {S V : Type 0} (machine : Recordable S V) (terms : Terms) where
   -- so many Runs of a hart, that need only pages held so and touch no device
   abbrev pub runs : ℕ → ℕ → Replay S → Option (Replay S)
   runs h zero s = Some s
@@ -83,19 +85,20 @@ module _ {S V : Type 0} (machine : Machine S V) (terms : Terms) where
   rests_at_limit h b = if is_at_limit machine terms b h then Ends Rest b else On b
 
   abbrev pub is_due : ℕ → Board S → Bool
-  is_due h b = nat_lt (count machine terms b h) terms.limit && ((count machine terms b h % 4096 == 0) && not (has_poll (stream b h) (count machine terms b h)))
+  is_due h b = nat_lt (count machine terms b h) terms.limit
+      && ((count machine terms b h % poll_distance == 0) && not (has_poll (stream b h) (count machine terms b h)))
 
   abbrev pub poll_at : ℕ → Board S → ℕ → Entry
   poll_at h b time = Poll (count machine terms b h) b.at.cursor.ordinal time (machine.flat.lines_at b.at.flat h time)
 
   -- at the greater of the clock's answer and mtime
-  abbrev pub polls_with : ℕ → Board S → Option (ℕ × Outside) → Way S
+  abbrev pub polls_with : ℕ → Board S → Option (ℕ × Supply) → Way S
   polls_with h b None = Nowhere
-  polls_with h b (Some (time, left)) = on (entered machine terms h (poll_at h b (max time (machine.flat.time b.at.flat))) (record b { outside = left }))
+  polls_with h b (Some (time, left)) = on (entered machine terms h (poll_at h b (max time (machine.flat.time b.at.flat))) (record b { supply = left }))
 
   -- a Poll that is due
   abbrev pub polls : ℕ → Board S → Way S
-  polls h b = if is_due h b then with_room machine terms (poll_at h b 0) (λ c. polls_with h c (clock_answers c.outside.times c.outside)) b else On b
+  polls h b = if is_due h b then with_room machine terms (poll_at h b 0) (λ c. polls_with h c (clock_answers c.supply.times c.supply)) b else On b
 
   abbrev pub yield_of : ℕ → ℕ × Mode → Board S → Entry
   yield_of h n b = Yield (count machine terms b h) n.0 (next_number b n.0) (left_for n.1)
@@ -106,7 +109,8 @@ module _ {S V : Type 0} (machine : Machine S V) (terms : Terms) where
 
   abbrev pub yields_for : ℕ → ℕ → Option (ℕ × Mode) → Board S → Way S
   yields_for h g None b = On b
-  yields_for h g (Some n) b = if yields_now h g n b then with_room machine terms (yield_of h n b) (λ c. on (entered machine terms h (yield_of h n c) c)) b else On b
+  yields_for h g (Some n) b = if yields_now h g n b then with_room machine terms (yield_of h n b)
+      (λ c. on (entered machine terms h (yield_of h n c) c)) b else On b
 
   -- a page is yielded to another hart that has stored a want of it
   abbrev pub yields_to : ℕ → ℕ → Board S → Way S
@@ -116,7 +120,8 @@ module _ {S V : Type 0} (machine : Machine S V) (terms : Terms) where
   yields h b = ways.goes (map (yields_to h) (harts b)) (On b)
 
   abbrev pub gain_of : ℕ → ℕ × Mode → Board S → Entry
-  gain_of h n b = Gain (count machine terms b h) n.0 (next_number b n.0) n.1 (record { items = waits_due (log_of machine terms b) n.0 h (next_number b n.0); room = 0 })
+  gain_of h n b = Gain (count machine terms b h) n.0 (next_number b n.0) n.1
+      (record { items = waits_due (log_of machine terms b) n.0 h (next_number b n.0); room = 0 })
 
   abbrev pub gains_unless : Option ℕ → ℕ → ℕ × Mode → Board S → Way S
   gains_unless None h n b = with_room machine terms (gain_of h n b) (λ c. on (entered machine terms h (gain_of h n c) c)) b
@@ -141,19 +146,19 @@ module _ {S V : Type 0} (machine : Machine S V) (terms : Terms) where
   touched h None = Nowhere
   touched h (Some b) = behind_touch h b
 
-  abbrev pub touches_at : ℕ → DeviceWord → Option ℕ → Asked → Board S → Option (ℕ × Outside) → Way S
+  abbrev pub touches_at : ℕ → DeviceWord → Option ℕ → Asked → Board S → Option (ℕ × Supply) → Way S
   touches_at h word store answer b None = Nowhere
   touches_at h word store answer b (Some (now, left)) =
-      touched h (entered machine terms h (touch_of h b (recorded_input word store (machine.flat.time b.at.flat) now answer)) (record b { outside = left }))
+      touched h (entered machine terms h (touch_of h b (recorded_input word store (machine.flat.time b.at.flat) now answer)) (record b { supply = left }))
 
   -- a console that fails closes the board
-  abbrev pub touches_with : ℕ → DeviceWord → Option ℕ → Board S → Option (Asked × Outside) → Way S
+  abbrev pub touches_with : ℕ → DeviceWord → Option ℕ → Board S → Option (Asked × Supply) → Way S
   touches_with h word store b None = Ends Rest (closes causes.Fault b)
   touches_with h word store b (Some (answer, left)) = touches_at h word store answer b (clock_gives word store left)
 
   abbrev pub accesses : ℕ → Option (DeviceWord × Option ℕ) → Board S → Way S
   accesses h None b = On b
-  accesses h (Some (word, store)) b = with_room machine terms (touch_of h b Nothing) (λ c. touches_with h word store c (console_gives word store c.outside)) b
+  accesses h (Some (word, store)) b = with_room machine terms (touch_of h b Nothing) (λ c. touches_with h word store c (console_gives word store c.supply)) b
 
   -- a device access is made, with its input
   abbrev pub touches : ℕ → Board S → Way S

@@ -1,12 +1,13 @@
 -- A turn: its moves, its steps, and what the board notes of it (docs/recorder.md).
-use Rattle.std.specs.Prelude.{ℕ, ◌+◌, ◌-◌, ◌++◌, ◌∷◌, ◌==◌, ◌&&◌, ◌||◌, not, Bool, true, false, List, [], length, slice_set, Option, Some, None, is_some, if◌then◌else◌}
+use Rattle.std.specs.Prelude.{ℕ, ◌+◌, ◌-◌, ◌++◌, ◌∷◌, ◌==◌, ◌&&◌, ◌||◌, not, Bool, true, false, List, [], length, slice_set, Option, Some, None, is_some}
+use Rattle.std.specs.Prelude.{if◌then◌else◌}
 use Rattle.std.specs.Option.{option_and_then, option_eq}
 use Rattle.rv_words.specs.declared.shared.Mode.{Mode}
 use Rattle.log_entry.specs.Parts.{strength}
 use Rattle.replay_model.specs.Outcome.{same}
-use Rattle.turn_model.specs.Machine.{Machine}
+use Rattle.turn_model.specs.Recordable.{Recordable}
 use Rattle.turn_model.specs.Board.{Board, Order, Go, Hold, Rest, Terms, stream, wanted, last_order}
-use Rattle.turn_model.specs.Entering.{Way, On, Ends, goes}
+use Rattle.turn_model.specs.Ways.{Way, On, Ends, goes}
 use Rattle.turn_model.specs.Steps.{commits, steps}
 
 abbrev pub same_want : ℕ × Mode → ℕ × Mode → Bool
@@ -43,7 +44,7 @@ abbrev pub ended_by : {S : Type 0} → ℕ → ℕ → Board S → Way S → Opt
 ended_by h n b (Ends order c) = Some (with_rows h n (items_made h n b c) b (with_order h order c))
 ended_by h n b way = None
 
-module _ {S V : Type 0} (machine : Machine S V) (terms : Terms) where
+module _ {S V : Type 0} (machine : Recordable S V) (terms : Terms) where
   -- the board after a turn of a hart with so many moves
   abbrev pub turn : ℕ → ℕ → Board S → Option (Board S)
   turn h n b = option_and_then (λ c. ended_by h n b (goes (steps machine terms h) (On c))) (commits machine terms h n b)

@@ -10,23 +10,23 @@ use Rattle.log_entry.specs.declared.log.Entry.TheVariants as e
 use Rattle.log_entry.specs.declared.log.Log.{Log}
 use Rattle.order_rules.specs.Worked.{log_of, gain, from, race_log}
 use Rattle.replay_model.specs.Worked.{Scripted, first, ended, stopping, racing, stop_log, race_journal}
-use Rattle.turn_model.specs.Machine.{Machine}
-use Rattle.turn_model.specs.Board.{Outside, Terms, board_at_start}
+use Rattle.turn_model.specs.Recordable.{Recordable}
+use Rattle.turn_model.specs.Board.{Supply, Terms, board_at_start}
 use Rattle.turn_model.specs.Lists.{Recorded, recorded_by_list}
 use Rattle.turn_model.specs.Rounds.{IsRecordedInRounds}
 
 -- a hart that stores 7 to STOP in its third move
-abbrev pub stopping_machine : Machine Scripted ℕ
+abbrev pub stopping_machine : Recordable Scripted ℕ
 stopping_machine = record { flat = stopping; access = λ s h. if slice_index s.counts h == 2 then Some (words.Stop, Some 7) else None }
 
-abbrev pub racing_machine : Machine Scripted ℕ
+abbrev pub racing_machine : Recordable Scripted ℕ
 racing_machine = record { flat = racing; access = λ s h. None }
 
 abbrev pub terms_of : ℕ → ℕ → ℕ → Terms
 terms_of pages limit log_limit = record { pages = pages; image = replicate 32 0; limit = limit; log_limit = log_limit }
 
 -- a hart that sends a byte in its third move
-abbrev pub sending_machine : Machine Scripted ℕ
+abbrev pub sending_machine : Recordable Scripted ℕ
 sending_machine = record { flat = stopping; access = λ s h. if slice_index s.counts h == 2 then Some (words.Tx, Some 65) else None }
 
 -- hart 0 stores in the page of the code in its fifth move
@@ -34,7 +34,7 @@ abbrev pub writing_needs : ℕ → ℕ → List (ℕ × Mode)
 writing_needs zero (suc (suc (suc (suc zero)))) = (0, Read) ∷ (0, Write) ∷ []
 writing_needs h count = (0, Read) ∷ []
 
-abbrev pub writing_machine : Machine Scripted ℕ
+abbrev pub writing_machine : Recordable Scripted ℕ
 writing_machine = record { flat = record racing { need = λ s h. writing_needs h (slice_index s.counts h) }; access = λ s h. None }
 
 abbrev pub writing_list : List (ℕ × ℕ)
@@ -47,11 +47,11 @@ writing_log = log_of 1 12 Limit (
     ∷ [])
 
 -- a clock that answers 5 so many times
-abbrev pub fives : ℕ → Outside
+abbrev pub fives : ℕ → Supply
 fives n = record { answers = []; takes = 0; times = replicate n 5 }
 
-abbrev pub by_list : Machine Scripted ℕ → Terms → ℕ → Outside → List (ℕ × ℕ) → Option (Recorded Scripted)
-by_list machine terms harts outside list = recorded_by_list machine terms list (board_at_start terms harts (first harts) outside)
+abbrev pub by_list : Recordable Scripted ℕ → Terms → ℕ → Supply → List (ℕ × ℕ) → Option (Recorded Scripted)
+by_list machine terms harts supply list = recorded_by_list machine terms list (board_at_start terms harts (first harts) supply)
 
 abbrev pub race_list : List (ℕ × ℕ)
 race_list = (0, 8) ∷ (1, 8) ∷ (0, 8) ∷ (1, 8) ∷ (0, 2) ∷ (1, 2) ∷ (0, 8) ∷ (0, 8) ∷ (1, 8) ∷ (1, 8) ∷ []
@@ -76,7 +76,7 @@ claiming_needs zero count = (0, Read) ∷ (0, Write) ∷ []
 claiming_needs (suc zero) count = (0, Read) ∷ (1, Write) ∷ []
 claiming_needs h count = (0, Read) ∷ (1, Read) ∷ []
 
-abbrev pub claiming_machine : Machine Scripted ℕ
+abbrev pub claiming_machine : Recordable Scripted ℕ
 claiming_machine = record { flat = record racing { need = λ s h. claiming_needs h (slice_index s.counts h) }; access = λ s h. None }
 
 abbrev pub claiming_log : Log
@@ -91,7 +91,7 @@ abbrev pub favour_needs : ℕ → ℕ → List (ℕ × Mode)
 favour_needs (suc h) zero = (0, Read) ∷ (0, Write) ∷ []
 favour_needs h count = (0, Read) ∷ []
 
-abbrev pub favour_machine : Machine Scripted ℕ
+abbrev pub favour_machine : Recordable Scripted ℕ
 favour_machine = record { flat = record racing { need = λ s h. favour_needs h (slice_index s.counts h) }; access = λ s h. None }
 
 abbrev pub favour_list : List (ℕ × ℕ)
@@ -111,7 +111,7 @@ modes_needs h zero = (0, Read) ∷ []
 modes_needs (suc (suc h)) count = (1, Read) ∷ (0, Read) ∷ []
 modes_needs h count = (1, Read) ∷ (0, Write) ∷ []
 
-abbrev pub modes_machine : Machine Scripted ℕ
+abbrev pub modes_machine : Recordable Scripted ℕ
 modes_machine = record { flat = record racing { need = λ s h. modes_needs h (slice_index s.counts h) }; access = λ s h. None }
 
 abbrev pub modes_list : List (ℕ × ℕ)
@@ -151,6 +151,14 @@ pub record AreRecorded : Type 0 where
     ended = ended (0 ∷ []) false 5;
     left = fives 0;
   })
+  -- the console takes one byte, and no more behind it
+  pub sent : by_list sending_machine (terms_of 1 100 67108864) 1 (record (fives 1) { takes = 1 }) ((0, 8) ∷ (0, 8) ∷ []) ≡ Some (record {
+    log = stop_log Stop 5 0 0 Read 2 Nothing 3;
+    journal = (0, 2) ∷ (0, 3) ∷ [];
+    turns = (0, 0) ∷ (0, 2) ∷ [];
+    ended = ended (3 ∷ []) true 5;
+    left = fives 0;
+  })
   -- the console takes no byte
   pub fault : by_list sending_machine (terms_of 1 100 67108864) 1 (fives 1) ((0, 8) ∷ (0, 8) ∷ []) ≡ Some (record {
     log = log_of 1 100 Fault ((e.Poll 0 0 5 0 ∷ gain 0 0 0 Read [] ∷ e.End 2 ∷ []) ∷ []);
@@ -159,7 +167,8 @@ pub record AreRecorded : Type 0 where
     ended = ended (2 ∷ []) false 5;
     left = fives 0;
   })
-  pub no_moves : option_map seen (by_list racing_machine (terms_of 2 0 67108864) 2 (fives 0) []) ≡ Some (log_of 2 0 Limit ((e.End 0 ∷ []) ∷ (e.End 0 ∷ []) ∷ []), [], first 2)
+  pub no_moves : option_map seen (by_list racing_machine (terms_of 2 0 67108864) 2 (fives 0) []) ≡ Some
+      (log_of 2 0 Limit ((e.End 0 ∷ []) ∷ (e.End 0 ∷ []) ∷ []), [], first 2)
   pub race : option_map seen (by_list racing_machine (terms_of 2 8 67108864) 2 (fives 2) race_list) ≡ Some (race_log, race_journal, ended (8 ∷ 8 ∷ []) false 5)
   pub written_code : option_map (λ r. r.log) (by_list writing_machine (terms_of 1 12 67108864) 2 (fives 2) writing_list) ≡ Some writing_log
   -- a claim is read anew before each Yield

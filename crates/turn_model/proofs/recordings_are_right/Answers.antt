@@ -1,4 +1,4 @@
-use Rattle.turn_model.proofs.BoardFacts.{recordings_are_right, rounds_are_right}
+use Rattle.turn_model.proofs.RightRecordings.{recordings_are_right, rounds_are_right}
 use Rattle.turn_model.proofs.recordings_are_right.Goals as goal
 
 pub returns-clause-list : goal.returns-clause-list

@@ -1,8 +1,10 @@
 -- Turns yield only pages that another hart wants: a stored want stays until its hart goes.
-use Rattle.std.proofs.Common.{◌≡◌, ◌≢◌, ℕ, zero, suc, ◌<◌, ◌++◌, true, List, [], ◌∷◌, map, max, Option, Some, None, slice_get, slice_set, unwrap_or, inl, inr, refl, sym, ap, ap₂, ◌∙◌, subst, arith}
+use Rattle.std.proofs.Common.{◌≡◌, ◌≢◌, ℕ, zero, suc, ◌<◌, ◌++◌, true, List, [], ◌∷◌, map, max, Option, Some, None, slice_get, slice_set, unwrap_or, inl, inr}
+use Rattle.std.proofs.Common.{refl, sym, ap, ap₂, ◌∙◌, subst, arith}
 use Rattle.std.proofs.lemmas.Option.{none-some, same_Some}
 use Rattle.std.proofs.lemmas.Bool.Decides.{eqb_tells}
 use Rattle.std.proofs.lemmas.List.{map-append}
+use Rattle.shared_types.proofs.Lists.{set_there}
 use Rattle.rv_words.specs.declared.shared.Mode.{Mode}
 use Rattle.rv_words.specs.declared.shared.Mode.TheVariants.{Read, Write}
 use Rattle.log_entry.specs.declared.log.Entry.{Entry}
@@ -16,20 +18,19 @@ use Rattle.replay_model.specs.Items.{Item, Ended, Move, Makes}
 use Rattle.replay_model.specs.Journal.{order_of, left_for, IsWantedGain, IsLeanItem}
 use Rattle.crew_recording.specs.Recording.{Recording, IsRecorded, Records, first_recording}
 use Rattle.crew_recording.specs.Allowed.{Allowed}
-use Rattle.crew_recording.proofs.Streams.{set_there}
-use Rattle.crew_recording.proofs.Obeying.{EachMade}
-use Rattle.crew_recording.proofs.Ordered.{IsOrdered, ordered_item}
+use Rattle.crew_recording.proofs.Obedience.{EachMade}
+use Rattle.crew_recording.proofs.OrderedRecordings.{IsOrdered, ordered_item}
 use Rattle.crew_recording.proofs.Together.{Made, made_after, others_same}
-use Rattle.turn_model.specs.Machine.{Machine}
+use Rattle.turn_model.specs.Recordable.{Recordable}
 use Rattle.turn_model.specs.Board.{Board, Terms, wanted}
 use Rattle.turn_model.specs.Steps.{poll_at, yield_of, gain_of, touch_of}
 use Rattle.turn_model.specs.Turn.{turn}
 use Rattle.turn_model.specs.Faithful.{IsFaithful}
-use Rattle.turn_model.proofs.Ways.{recording_of, by_one, IsSound, IsMeant, AreMeant}
-use Rattle.turn_model.proofs.Walking.{Keeps}
-use Rattle.turn_model.proofs.Leaving.{Entered, after_entry}
-use Rattle.turn_model.proofs.Closing.{cleared}
-use Rattle.turn_model.proofs.Turning.{CanMove, Goes, IsOf, turn_keeps}
+use Rattle.turn_model.proofs.Ways.{recording_of, by_one, IsSoundBoard, IsMeant, AreMeant}
+use Rattle.turn_model.proofs.StepInvariants.{Preserves}
+use Rattle.turn_model.proofs.Entries.{Entered, after_entry}
+use Rattle.turn_model.proofs.Closure.{cleared}
+use Rattle.turn_model.proofs.Turns.{CanMove, Goes, IsOf, turn_keeps}
 
 -- what is left for a hart in its mode is less than what conflicts with it alone
 conflicts_so : (hold : Option Mode) (mode : Mode) → strength (left_for mode) < strength hold → conflict hold (Some mode) ≡ true
@@ -45,13 +46,15 @@ stored_is [] h n m is = absurd (none-some _ is)
 stored_is (w ∷ wants) zero n m is = same_Some _ _ is
 stored_is (w ∷ wants) (suc h) n m is = stored_is wants h n m is
 
-module _ {S V : Type 0} (machine : Machine S V) (terms : Terms) (many : ℕ) (Good : S → Type 0) (faithful : IsFaithful machine.flat many terms.pages Good) (first : S) where
+module _ {S V : Type 0} (machine : Recordable S V) (terms : Terms) (many : ℕ) (Good : S → Type 0) (faithful : IsFaithful machine.flat many terms.pages Good)
+    (first : S) where
   abbrev MadeBy : Recording S → List (ℕ × Item) → Recording S → Type 0
   MadeBy r items s = Made machine.flat terms.pages terms.limit r items s
 
   -- what a hart wants stays while another makes an item, wherever allowed items lead
   abbrev pub WantsStay : Type 0
-  WantsStay = (r m : Recording S) (items : List (ℕ × Item)) (g h : ℕ) (item : Item) (n : ℕ × Mode) → MadeBy (first_recording terms.pages many first) items r → MadeBy r ((g, item) ∷ []) m → h ≢ g
+  WantsStay = (r m : Recording S) (items : List (ℕ × Item)) (g h : ℕ) (item : Item) (n : ℕ × Mode) → MadeBy (first_recording terms.pages many first) items r
+      → MadeBy r ((g, item) ∷ []) m → h ≢ g
       → want machine.flat r.at h ≡ Some n → want machine.flat m.at h ≡ Some n
 
   -- a hart below the limit that wants a page in a mode
@@ -74,11 +77,14 @@ module _ {S V : Type 0} (machine : Machine S V) (terms : Terms) (many : ℕ) (Go
   leans_after r m s (x ∷ xs) ys one two = (one.0, one.1, one.2, leans_after one.0 m s xs ys one.3 two)
 
   -- the records of such items, each of which is lean
-  pub recorded_so : (log : Log) → log.limit ≡ terms.limit → (r s : Recording S) (items : List (ℕ × Item)) → Leans r items s → (is : Records machine.flat r items s) × EachMade machine.flat (IsLeanItem machine.flat log) r s items is
+  pub recorded_so : (log : Log) → log.limit ≡ terms.limit → (r s : Recording S) (items : List (ℕ × Item)) → Leans r items s
+      → (is : Records machine.flat r items s) × EachMade machine.flat (IsLeanItem machine.flat log) r s items is
   recorded_so log same r s [] leans = (leans, tt)
-  recorded_so log same r s (x ∷ items) leans = let rest = recorded_so log same leans.0 s items leans.3 in ((leans.0, leans.1, rest.0), (leans.2 log same, rest.1))
+  recorded_so log same r s (x ∷ items) leans = let rest = recorded_so log same leans.0 s items leans.3 in
+      ((leans.0, leans.1, rest.0), (leans.2 log same, rest.1))
 
-  lean_item : (wants : ℕ → Option (ℕ × Mode)) (r : Recording S) (h : ℕ) (item : Item) → IsWantedGain machine.flat r.at h item → Allowed machine.flat terms.pages terms.limit r h item → IsMeant wants h item → OthersWant wants h r.at → LeanSo r.at h item
+  lean_item : (wants : ℕ → Option (ℕ × Mode)) (r : Recording S) (h : ℕ) (item : Item) → IsWantedGain machine.flat r.at h item
+      → Allowed machine.flat terms.pages terms.limit r h item → IsMeant wants h item → OthersWant wants h r.at → LeanSo r.at h item
   lean_item wants r h Ended gain allowed meant others log same = tt
   lean_item wants r h Move gain allowed meant others log same = tt
   lean_item wants r h (Makes (entries.Gain count page seq mode waits)) gain allowed meant others log same = gain
@@ -101,7 +107,8 @@ module _ {S V : Type 0} (machine : Machine S V) (terms : Terms) (many : ℕ) (Go
   OrderedR r = IsOrdered machine.flat many Good faithful.steady faithful.timed terms.pages terms.limit r
 
   -- the items of a turn of h, while other harts want what they have stored
-  items_lean : WantsStay → (wants : ℕ → Option (ℕ × Mode)) (h : ℕ) (own : List Item) (before : List (ℕ × Item)) (r s : Recording S) → OrderedR r → MadeBy (first_recording terms.pages many first) before r → MadeBy r (by_one h own) s → AreMeant wants h own → OthersWant wants h r.at
+  items_lean : WantsStay → (wants : ℕ → Option (ℕ × Mode)) (h : ℕ) (own : List Item) (before : List (ℕ × Item)) (r s : Recording S) → OrderedR r
+      → MadeBy (first_recording terms.pages many first) before r → MadeBy r (by_one h own) s → AreMeant wants h own → OthersWant wants h r.at
       → Leans r (by_one h own) s × OthersWant wants h s.at
   items_lean stays wants h [] before r s ordered known made meant others = (made.0, subst (λ (x : Recording S). OthersWant wants h x.at) made.0 others)
   items_lean stays wants h (item ∷ own) before r s ordered known made meant others =
@@ -113,7 +120,8 @@ module _ {S V : Type 0} (machine : Machine S V) (terms : Terms) (many : ℕ) (Go
       (subst (λ k. k < terms.limit) (sym same.count) w.0, stays r made.0.0 before h g item n known one other w.1) in
       let rest = items_lean stays wants h own (before ++ (h, item) ∷ []) made.0.0 s
       (ordered_item machine.flat many Good faithful.steady faithful.timed terms.pages terms.limit r made.0.0 h item ordered made.0.1 made.1.0)
-      (made_after machine.flat terms.pages terms.limit (first_recording terms.pages many first) r made.0.0 before ((h, item) ∷ []) known one) (made.0.2, made.1.1, made.2.1) meant.1 still in
+      (made_after machine.flat terms.pages terms.limit (first_recording terms.pages many first) r made.0.0 before ((h, item) ∷ []) known one)
+      (made.0.2, made.1.1, made.2.1) meant.1 still in
       ((made.0.0, made.0.1, lean_item wants r h item made.2.0 made.1.0 meant.0 others, rest.0), rest.1)
 
   -- what a turn of h leaves of the stored wants
@@ -131,33 +139,43 @@ module _ {S V : Type 0} (machine : Machine S V) (terms : Terms) (many : ℕ) (Go
     none_wants b own = (λ n is. absurd (none-some _ (sym own.0 ∙ is)), own.1)
 
     entry_wants : (b d : Board S) (e : Entry) → Entered machine terms many terms.pages Good faithful h e b d → OwnNone b → OwnNone d
-    entry_wants b d e x own = subst (λ ws. (unwrap_or (slice_get ws h) None ≡ None) × ((g : ℕ) → g ≢ h → unwrap_or (slice_get ws g) None ≡ wants g)) (sym x.wants) own
+    entry_wants b d e x own = subst (λ ws. (unwrap_or (slice_get ws h) None ≡ None) × ((g : ℕ) → g ≢ h → unwrap_or (slice_get ws g) None ≡ wants g))
+        (sym x.wants) own
 
-    wants_keep : Keeps machine terms many terms.pages Good faithful h inside OwnNone OwnNone (λ order b. OwnWants b)
+    wants_keep : Preserves machine terms many terms.pages Good faithful h inside OwnNone OwnNone (λ order b. OwnWants b)
     wants_keep = record {
       stays = none_wants;
       opens = λ b own none running. own;
       rests = none_wants;
       goes = λ b until own. none_wants b own;
-      holds = λ b n g low is own. (λ m stored. subst (Wanting b.at h) (stored_is b.wants h n m stored) (low, is), λ k other. ap (λ o. unwrap_or o None) (set_there b.wants h k (Some n) other) ∙ own.1 k other);
+      holds = λ b n g low is own. (
+        λ m stored. subst (Wanting b.at h) (stored_is b.wants h n m stored) (low, is),
+        λ k other. ap (λ o. unwrap_or o None) (set_there b.wants h k (Some n) other) ∙ own.1 k other,
+      );
       fills = λ b low own. none_wants b own;
       fills_for = λ b g n other is own. none_wants b own;
       fails = λ b low own. none_wants b own;
       favours = λ b own. own;
       polls = λ b d time left sound own room is made.
           let e = poll_at machine terms h b (max time (machine.flat.time b.at.flat)) in
-          entry_wants (record b { outside = left }) d e (after_entry machine terms many terms.pages Good faithful h e (record b { outside = left }) d sound.ordered.tidy.good made) own;
-      yields = λ b d n sound own room made. let e = yield_of machine terms h n b in entry_wants b d e (after_entry machine terms many terms.pages Good faithful h e b d sound.ordered.tidy.good made) own;
-      gains = λ b d n sound own room made. let e = gain_of machine terms h n b in entry_wants b d e (after_entry machine terms many terms.pages Good faithful h e b d sound.ordered.tidy.good made) own;
+          entry_wants (record b { supply = left }) d e
+          (after_entry machine terms many terms.pages Good faithful h e (record b { supply = left }) d sound.ordered.tidy.good made) own;
+      yields = λ b d n sound own room made. let e = yield_of machine terms h n b in
+          entry_wants b d e (after_entry machine terms many terms.pages Good faithful h e b d sound.ordered.tidy.good made) own;
+      gains = λ b d n sound own room made. let e = gain_of machine terms h n b in
+          entry_wants b d e (after_entry machine terms many terms.pages Good faithful h e b d sound.ordered.tidy.good made) own;
       touches = λ b d word store answer now left rest sound own room access said is made.
           let e = touch_of machine terms h b (recorded_input word store (machine.flat.time b.at.flat) now answer) in
-          let x = entry_wants (record b { outside = rest }) d e (after_entry machine terms many terms.pages Good faithful h e (record b { outside = rest }) d sound.ordered.tidy.good made) own in
+          let x = entry_wants (record b { supply = rest }) d e
+          (after_entry machine terms many terms.pages Good faithful h e (record b { supply = rest }) d sound.ordered.tidy.good made) own in
           (λ _. none_wants d x, λ _. x);
     }
 
-  turn_wants : (h : ℕ) (inside : h < many) (n : ℕ) (b d : Board S) → IsSound machine.flat many terms.pages terms.limit Good faithful b → CanMove machine terms many terms.pages Good faithful h n (recording_of b) → turn machine terms h n b ≡ Some d → OwnWants h inside (wanted b) d
+  turn_wants : (h : ℕ) (inside : h < many) (n : ℕ) (b d : Board S) → IsSoundBoard machine.flat many terms.pages terms.limit Good faithful b
+      → CanMove machine terms many terms.pages Good faithful h n (recording_of b) → turn machine terms h n b ≡ Some d → OwnWants h inside (wanted b) d
   turn_wants h inside n b d sound can is =
-      turn_keeps machine terms many terms.pages Good faithful h inside (OwnNone h inside (wanted b)) (OwnNone h inside (wanted b)) (λ order c. OwnWants h inside (wanted b) c) (OwnWants h inside (wanted b)) (wants_keep h inside (wanted b)) n b d sound can is
+      turn_keeps machine terms many terms.pages Good faithful h inside (OwnNone h inside (wanted b)) (OwnNone h inside (wanted b))
+      (λ order c. OwnWants h inside (wanted b) c) (OwnWants h inside (wanted b)) (wants_keep h inside (wanted b)) n b d sound can is
       (λ c x. committed c x.wants) (λ c order own. own)
     where
       committed : (c : Board S) → c.wants ≡ slice_set b.wants h None → OwnNone h inside (wanted b) c
@@ -178,19 +196,26 @@ module _ {S V : Type 0} (machine : Machine S V) (terms : Terms) (many : ℕ) (Go
     items = lean.items;
     leans = subst (λ (r : Recording S). Leans (first_recording terms.pages many first) lean.items r) same lean.leans;
     order = ap order_of journal ∙ lean.order;
-    stored = λ g n is. subst (λ (r : Recording S). Wanting r.at g n) same (lean.stored g n (ap (λ (ws : List (Option (ℕ × Mode))). unwrap_or (slice_get ws g) None) (sym wants) ∙ is));
+    stored = λ g n is. subst (λ (r : Recording S). Wanting r.at g n) same
+        (lean.stored g n (ap (λ (ws : List (Option (ℕ × Mode))). unwrap_or (slice_get ws g) None) (sym wants) ∙ is));
   }
 
-  pub lean_turn : WantsStay → (h : ℕ) (inside : h < many) (n : ℕ) (b d : Board S) (before : List (ℕ × Item)) → IsSound machine.flat many terms.pages terms.limit Good faithful b → MadeBy (first_recording terms.pages many first) before (recording_of b)
-      → CanMove machine terms many terms.pages Good faithful h n (recording_of b) → turn machine terms h n b ≡ Some d → (goes : Goes machine terms many terms.pages Good faithful b d) → IsOf machine terms many terms.pages Good faithful h b goes.items → IsLeanTo b → IsLeanTo d
+  pub lean_turn : WantsStay → (h : ℕ) (inside : h < many) (n : ℕ) (b d : Board S) (before : List (ℕ × Item))
+      → IsSoundBoard machine.flat many terms.pages terms.limit Good faithful b → MadeBy (first_recording terms.pages many first) before (recording_of b)
+      → CanMove machine terms many terms.pages Good faithful h n (recording_of b) → turn machine terms h n b ≡ Some d
+      → (goes : Goes machine terms many terms.pages Good faithful b d) → IsOf machine terms many terms.pages Good faithful h b goes.items → IsLeanTo b
+      → IsLeanTo d
   lean_turn stays h inside n b d before sound known can is goes of lean =
-      let made : MadeBy (recording_of b) (by_one h of.own) (recording_of d) = subst (λ items. MadeBy (recording_of b) items (recording_of d)) of.are goes.made in
-      let x = items_lean stays (wanted b) h of.own before (recording_of b) (recording_of d) sound.ordered known made of.meant (λ g n other stored. lean.stored g n stored) in
+      let made : MadeBy (recording_of b) (by_one h of.own) (recording_of d) =
+      subst (λ items. MadeBy (recording_of b) items (recording_of d)) of.are goes.made in
+      let x = items_lean stays (wanted b) h of.own before (recording_of b) (recording_of d) sound.ordered known made of.meant
+      (λ g n other stored. lean.stored g n stored) in
       let own = turn_wants h inside n b d sound can is in
       record {
         items = lean.items ++ by_one h of.own;
         leans = leans_after (first_recording terms.pages many first) (recording_of b) (recording_of d) lean.items (by_one h of.own) lean.leans x.0;
-        order = goes.order ∙ ap₂ (λ xs (ys : List (ℕ × Item)). xs ++ map (λ (y : ℕ × Item). y.0) ys) lean.order of.are ∙ sym (map-append (λ (y : ℕ × Item). y.0) lean.items (by_one h of.own));
+        order = goes.order ∙ ap₂ (λ xs (ys : List (ℕ × Item)). xs ++ map (λ (y : ℕ × Item). y.0) ys) lean.order of.are
+            ∙ sym (map-append (λ (y : ℕ × Item). y.0) lean.items (by_one h of.own));
         stored = λ g n stored. elim (eqb_tells g h) [
           | inl (t, same) ↦ subst (λ k. Wanting d.at k n) (sym same) (own.0 n (subst (λ k. wanted d k ≡ Some n) same stored))
           | inr (f, other) ↦ x.1 g n other (sym (own.1 g other) ∙ stored)

@@ -6,7 +6,7 @@ use Rattle.log_entry.specs.Parts.{unit_of}
 use Rattle.log_entry.specs.Size.{size_in, size_of_log}
 use Rattle.log_entry.specs.declared.log.Entry.{Entry}
 use Rattle.replay_model.specs.Items.{Makes, made}
-use Rattle.turn_model.specs.Machine.{Machine}
+use Rattle.turn_model.specs.Recordable.{Recordable}
 use Rattle.turn_model.specs.Board.{Board, Order, Rest, Terms, stream, closes, ended_streams, log_of}
 
 -- a turn goes on, or has ended with an order; or there is none, since the clock has no answer left or an item can't be made
@@ -25,7 +25,7 @@ abbrev pub on : {S : Type 0} → Option (Board S) → Way S
 on None = Nowhere
 on (Some b) = On b
 
-module _ {S V : Type 0} (machine : Machine S V) (terms : Terms) where
+module _ {S V : Type 0} (machine : Recordable S V) (terms : Terms) where
   -- the bytes of the log, were the run to end here
   abbrev pub log_size : Board S → ℕ
   log_size b = size_of_log (unit_of (log_of machine terms b)) (ended_streams machine terms b)

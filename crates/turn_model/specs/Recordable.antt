@@ -9,12 +9,13 @@ use Rattle.replay_model.specs.Flat.{Flat}
 use Rattle.replay_model.specs.Board.{board, hart_access}
 
 -- what a replay asks, and which device word a hart's next move accesses, with the word that it stores there, if any
-pub record Machine (S V : Type 0) : Type 0 where
+pub record Recordable (S V : Type 0) : Type 0 where
   pub flat : Flat S V
   pub access : S → ℕ → Option (DeviceWord × Option ℕ)
 
-abbrev pub board_machine : Machine FlatState (List Step)
-board_machine = record {
-  flat = board;
+-- pages are of so many bytes
+abbrev pub board_machine : ℕ → Recordable FlatState (List Step)
+board_machine unit = record {
+  flat = board unit;
   access = λ s h. option_and_then (λ a. option_map (λ word. (word, a.store)) (device_word s.devices.harts a.at)) (hart_access s h);
 }
