@@ -1,10 +1,1 @@
-pub mod Aheads
-pub mod Addresses
-pub mod Sound
-pub mod Lists
-pub mod Agreed
-pub mod Moved
-pub mod Stepped
-pub mod Led
-pub mod Handed
-pub mod Begun
+pub mod Bursts

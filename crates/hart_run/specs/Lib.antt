@@ -1,3 +1,2 @@
-pub mod Run
-pub mod Agreement
-pub mod Legs
+pub mod Known
+pub mod Bursts

@@ -7,21 +7,25 @@ ghost use Rattle.rv_words.specs.declared.shared.Mode.TheVariants.{Read};
 ghost use Rattle.rv_hart.specs.Effects.{effect_of};
 ghost use Rattle.rv_hart.specs.Moves.{after, need_of, with_csrs};
 ghost use Rattle.rv_hart.specs.Needs.{page_at, data_pages};
-ghost use Rattle.rv_hart.specs.Places.{WordInMemory, NeedIsThere, WritesInMemory};
+ghost use Rattle.rv_hart.specs.Places.{WordInMemory, NeedIsThere, WritesInMemory, IsSound};
 ghost use Rattle.rv_csr.specs.Traps.{with_lines};
 ghost use Rattle.log_entry.specs.Parts.{strength};
 ghost use Rattle.flat_machine.specs.State.{FlatState};
 ghost use Rattle.flat_machine.specs.Moves.{next_move};
 ghost use Rattle.replay_model.specs.Board.{board};
 ghost use Rattle.replay_model.specs.State.{Replay, IsCrewState};
-ghost use Rattle.hart_run.specs.Agreement.{Agrees, IsAhead, IsFirst, PageOf, StoreHas, Yields, word_seen, pages_known, with_hart, with_move, with_page_held};
-ghost use Rattle.hart_run.specs.Legs.{KeepsPages, MakesLeg};
-ghost use Rattle.hart_run.specs.Run as runs;
-ghost use Rattle.hart_run.specs.Run.{run_at_start, hold_of, lacks, word_held, word_of, move_held, LoadsOrAsks, ahead_of, moved_by, stored_in, stronger, needed_in, most_needed, claim_of, IsAbove, taken, store_taken, given, store_given, frames_given, hart_given, ends_with, touched_by, FrameOf, Steps, IsAtDevice, AheadAt};
+ghost use Rattle.run_model.specs.Agreement.{Agrees, IsAhead, IsFirst, PageOf, StoreHas, Yields, word_seen, pages_known, with_hart, with_move, with_page_held};
+ghost use Rattle.run_model.specs.Legs.{KeepsPages, MakesLeg};
+ghost use Rattle.rv_hart.specs.Bursts.{reads_csr};
+ghost use Rattle.hart_run.specs.Bursts.{HasGone, Passes};
+ghost use Rattle.run_model.specs.Run as runs;
+ghost use Rattle.run_model.specs.Run.{run_at_start, hold_of, lacks, word_held, word_of, move_held, LoadsOrAsks, ahead_of, moved_by, stored_in, stronger, needed_in, most_needed, claim_of, IsAbove, taken, store_taken, given, store_given, frames_given, hart_given, ends_with, touched_by, FrameOf, Steps, IsAtDevice, AheadAt};
 
+use crate::decoded::Decodings;
 use elf_image::Image;
 use guest_pages::{Page, PageStore};
-use rv_hart::{Fetch, Hart, Need, Wrote};
+use rv_decode::Instr;
+use rv_hart::{Effect, Fetch, Hart, Need, Wrote};
 use rv_words::{Access, Mode};
 use shared_types::NoMemory;
 use std::alloc::Global;
@@ -57,11 +61,12 @@ pub struct HartRun {
     count: u64,
     held: Vec<Option<Mode>>,
     frames: PageStore,
+    decodings: Decodings,
 }
 
 impl Model for HartRun {
-    ghost use Rattle.hart_run.specs.Run as runs;
-    ghost use Rattle.hart_run.specs.Run.{IsOneRun};
+    ghost use Rattle.run_model.specs.Run as runs;
+    ghost use Rattle.run_model.specs.Run.{IsOneRun};
 
     ghost Value = { runs.Run };
 
@@ -121,6 +126,13 @@ fn needed_for(need: Need, page: u32) -> Option<Mode>
     }
 }
 
+/// Whether an instruction reads a control register.
+fn reads_csr(i: Instr) -> bool
+    ensures { result ≡ reads_csr i }
+{
+    matches!(i, Instr::Csr { .. })
+}
+
 impl HartRun {
     /// A run at its hart's start, on a board with so many harts.
     pub fn start(alloc: Global, id: u8, harts: u8, image: &Image) -> Result<HartRun, NoMemory>
@@ -133,12 +145,14 @@ impl HartRun {
             return Err(NoMemory);
         };
         let frames = PageStore::blank(alloc, number as u32, image.unit())?;
+        let decodings = Decodings::start(alloc)?;
         let hart = Hart::start(id, harts, image.pages(), image.entry());
         Ok(HartRun {
             hart,
             count: 0,
             held,
             frames,
+            decodings,
         })
     }
 
@@ -268,15 +282,31 @@ impl HartRun {
         }
     }
 
+    /// What the move of a fetched word does.
+    #[inline(always)]
+    fn effect(&mut self, word: u32) -> Effect
+        ensures effect { result ≡ effect_of self.old.hart word }
+        ensures sound { IsSound self.old.hart result }
+        ensures same { self.new ≡ self.old }
+    {
+        match self.decodings.decode(self.hart.pc(), word) {
+            Some(i) => self.hart.instr_effect(i, word),
+            None => Effect::Traps {
+                cause: 2,
+                value: word,
+            },
+        }
+    }
+
     /// Makes the move of a fetched word, where it asks for nothing.
-    #[tactic(auto, using(crate::proofs::Aheads::ahead_of_word))]
+    #[tactic(auto, using(run_model::proofs::Aheads::ahead_of_word))]
     fn execute(&mut self, word: u32) -> Ahead
         requires word { word_of self.old ≡ Some word }
         requires count { self.old.count < 2 ^ 64 - 1 }
         ensures ahead { result ≡ ahead_of self.old }
         ensures made { Steps self.old self.new result }
     {
-        let effect = self.hart.effect(word);
+        let effect = self.effect(word);
         match self.loaded(effect.need()) {
             Ok(loaded) => {
                 let wrote = self.hart.make(effect, loaded);
@@ -310,6 +340,60 @@ impl HartRun {
         }
     }
 
+    /// Makes the next move uncounted, where no interrupt is pending, it reads and changes no control register
+    /// but the counters, and it asks for nothing; else false.
+    #[inline(always)]
+    fn pass(&mut self) -> bool
+        ensures { Passes self.old self.new result }
+    {
+        let Some(pc) = self.hart.place() else {
+            return false;
+        };
+        if self.lacks(pc, Mode::Read) {
+            return false;
+        }
+        let word = self.word_held(pc);
+        let Some(i) = self.decodings.decode(pc, word) else {
+            return false;
+        };
+        if reads_csr(i) {
+            return false;
+        }
+        let effect = self.hart.instr_effect(i, word);
+        if !effect.is_quiet() {
+            return false;
+        }
+        let Ok(loaded) = self.loaded(effect.need()) else {
+            return false;
+        };
+        let wrote = self.hart.make_uncounted(effect, loaded);
+        self.store(wrote);
+        true
+    }
+
+    /// Makes moves while they pass, and counts them together.
+    fn burst(&mut self, until: u64)
+        requires { self.old.count ≤ until }
+        ensures within { self.new.count ≤ until }
+        ensures gone { HasGone self.old self.new }
+    {
+        let Fetch::At(_) = self.hart.fetch_need() else {
+            return;
+        };
+        let most = until - self.count;
+        let mut moves = 0;
+        while moves < most {
+            if !self.pass() {
+                break;
+            }
+            moves += 1;
+        }
+        if moves > 0 {
+            self.hart.count_moves(moves);
+            self.count += moves;
+        }
+    }
+
     /// Moves on held pages while the count is below `until`.
     pub fn advance(&mut self, until: u64) -> Pause
         requires { self.old.count ≤ until }
@@ -318,6 +402,10 @@ impl HartRun {
         ensures leg { (h : ℕ) (s : Replay FlatState) → IsCrewState board s → Agrees self.old h s → MakesLeg self.new result h until s }
     {
         while self.count < until {
+            self.burst(until);
+            if self.count == until {
+                return Pause::Due;
+            }
             match self.step() {
                 Ahead::Free => {}
                 Ahead::Wants(page, mode) => return Pause::Wants(page, mode),

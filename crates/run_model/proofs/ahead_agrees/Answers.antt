@@ -1,0 +1,5 @@
+use Rattle.run_model.proofs.Sight as law
+use Rattle.run_model.proofs.ahead_agrees.Goals as goal
+
+pub returns : goal.returns
+returns c = law.ahead_agrees

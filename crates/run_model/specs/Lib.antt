@@ -1,0 +1,4 @@
+pub mod Run
+pub mod Agreement
+pub mod Legs
+pub mod Laws
