@@ -10,7 +10,7 @@ use Rattle.rv_hart.specs.State.{Hart}
 use Rattle.rv_hart.specs.Effects.{instr_effect, decoded_effect, effect_of, fetch_of}
 use Rattle.rv_hart.specs.Moves.{after, written, need_of, with_csrs}
 use Rattle.rv_hart.specs.Needs.{page_at}
-use Rattle.rv_hart.specs.Bursts.{reads_csr, is_quiet, place_of, with_counted}
+use Rattle.rv_hart.specs.Bursts.{reads_csr, is_quiet, fetch_place, with_counted}
 use Rattle.rv_hart.proofs.Bursts.{effect_apart, after_apart, fetches_at}
 use Rattle.rv_hart.specs.declared.effect.Effect.{Effect}
 use Rattle.rv_hart.specs.declared.effect.Fetch.{Fetch}
@@ -29,7 +29,7 @@ use Rattle.run_model.proofs.AfterMove.{one_after}
 
 -- what a run's code found of a move before it made it uncounted
 pub record IsFound (r : Run) (pc word : ℕ) (i : Instr) (e : Effect) (loaded : ℕ) : Type 0 where
-  pub place : place_of r.hart ≡ Some pc
+  pub place : fetch_place r.hart ≡ Some pc
   pub held : lacks r (page_at r.frames.unit pc, Read) ≡ false
   pub word_is : word ≡ word_held r pc
   pub instr : meaning word ≡ Some i
@@ -43,7 +43,8 @@ pub record IsFound (r : Run) (pc word : ℕ) (i : Instr) (e : Effect) (loaded : 
 abbrev pub passed_by : Run → Effect → ℕ → Run
 passed_by r e loaded = record r { hart = with_csrs r.hart.csrs (after r.hart e loaded); frames = stored_in r.frames (written e loaded) }
 
-fetched_word : (n : ℕ) (r : Run) (pc word : ℕ) (i : Instr) (e : Effect) (loaded : ℕ) → IsFound r pc word i e loaded → is_some (pending r.hart.csrs) ≡ false → word_of (lagged n r) ≡ Some word
+fetched_word : (n : ℕ) (r : Run) (pc word : ℕ) (i : Instr) (e : Effect) (loaded : ℕ) → IsFound r pc word i e loaded → is_some (pending r.hart.csrs) ≡ false
+    → word_of (lagged n r) ≡ Some word
 fetched_word n r pc word i e loaded f none =
     ap (fetched_from (lagged n r)) (fetches_at n r.hart pc none f.place)
     ∙ ap (λ b. cond b None (Some (word_held r pc))) f.held
@@ -55,10 +56,12 @@ effect_is n r pc word i e loaded f =
     ∙ effect_apart r.hart (counted_times n r.hart.csrs) i word f.apart
     ∙ sym f.effect
 
-move_is : (n : ℕ) (r : Run) (pc word : ℕ) (i : Instr) (e : Effect) (loaded : ℕ) → IsFound r pc word i e loaded → is_some (pending r.hart.csrs) ≡ false → move_held (lagged n r) ≡ e
+move_is : (n : ℕ) (r : Run) (pc word : ℕ) (i : Instr) (e : Effect) (loaded : ℕ) → IsFound r pc word i e loaded → is_some (pending r.hart.csrs) ≡ false
+    → move_held (lagged n r) ≡ e
 move_is n r pc word i e loaded f none = ap (move_of (lagged n r).hart) (fetched_word n r pc word i e loaded f none) ∙ effect_is n r pc word i e loaded f
 
-free_is : (n : ℕ) (r : Run) (pc word : ℕ) (i : Instr) (e : Effect) (loaded : ℕ) → IsFound r pc word i e loaded → is_some (pending r.hart.csrs) ≡ false → ahead_of (lagged n r) ≡ Free
+free_is : (n : ℕ) (r : Run) (pc word : ℕ) (i : Instr) (e : Effect) (loaded : ℕ) → IsFound r pc word i e loaded → is_some (pending r.hart.csrs) ≡ false
+    → ahead_of (lagged n r) ≡ Free
 free_is n r pc word i e loaded f none =
     ahead_of_word (lagged n r) word (fetched_word n r pc word i e loaded f none)
     ∙ ap (λ x. data_ahead r (need_of x)) (effect_is n r pc word i e loaded f)
@@ -67,7 +70,8 @@ free_is n r pc word i e loaded f none =
 quiet_csrs : (h : Hart) (e : Effect) (loaded : ℕ) (c : Csrs) → (with_csrs c (after h e loaded)).csrs ≡ c
 quiet_csrs h e loaded c = refl
 
-one_more : (r : Run) (n : ℕ) (h : Hart) (e : Effect) (l : ℕ) → is_quiet e ≡ true → l ≡ loaded_held r (need_of e) → lagged (suc n) (passed_by r e l) ≡ moved_by (lagged n r) e
+one_more : (r : Run) (n : ℕ) (h : Hart) (e : Effect) (l : ℕ) → is_quiet e ≡ true → l ≡ loaded_held r (need_of e)
+    → lagged (suc n) (passed_by r e l) ≡ moved_by (lagged n r) e
 one_more r n h e l q is =
     ap₂ (λ (x : Hart) (k : ℕ). record (passed_by r e l) { hart = x; count = k }) (sym (after_apart r.hart (counted_times n r.hart.csrs) e l q)) (omega arith)
     ∙ ap (λ z. record r { hart = after (lagged n r).hart e z; count = r.count + n + 1; frames = stored_in r.frames (written e z) }) is
@@ -82,7 +86,8 @@ passes r pc word i e loaded f =
       move = λ n none. one_more r n r.hart e loaded f.quiet f.loaded_is ∙ ap (moved_by (lagged n r)) (sym (move_is n r pc word i e loaded f none));
     }
 
-pub goes_further : (n : ℕ) (old r new : Run) → Goes n old (lagged n r) → Passed r new → is_some (pending r.hart.csrs) ≡ false → Goes (suc n) old (lagged (suc n) new)
+pub goes_further : (n : ℕ) (old r new : Run) → Goes n old (lagged n r) → Passed r new → is_some (pending r.hart.csrs) ≡ false
+    → Goes (suc n) old (lagged (suc n) new)
 goes_further n old r new g p none = (lagged n r, g, p.free n none, p.move n none)
 
 pub one_on : (n : ℕ) (r t : Run) → IsOneRun r → Goes n r t → IsOneRun t
@@ -90,9 +95,10 @@ one_on zero r t one g = subst IsOneRun (sym g) one
 one_on (suc n) r t one (m, g, f, is) = subst IsOneRun (sym is) (one_after m (one_on n r m one g))
 
 -- a burst leads on as its moves do
-pub led_on : (n : ℕ) (r t : Run) (h : ℕ) (s : Replay FlatState) → IsOneRun r → HasLed r h s → Goes n r t → HasLed t h s
-led_on zero r t h s one led g = subst (λ z. HasLed z h s) (sym g) led
-led_on (suc n) r t h s one led (m, g, f, is) = subst (λ z. HasLed z h s) (sym is) (led_further m h s (led_on n r m h s one led g) (one_on n r m one g) f)
+pub led_on : (unit n : ℕ) (r t : Run) (h : ℕ) (s : Replay FlatState) → IsOneRun r → HasLed unit r h s → Goes n r t → HasLed unit t h s
+led_on unit zero r t h s one led g = subst (λ z. HasLed unit z h s) (sym g) led
+led_on unit (suc n) r t h s one led (m, g, f, is) =
+    subst (λ z. HasLed unit z h s) (sym is) (led_further unit m h s (led_on unit n r m h s one led g) (one_on n r m one g) f)
 
 pub keeps_on : (n : ℕ) (old r t : Run) → KeepsPages old r → Goes n r t → KeepsPages old t
 keeps_on zero old r t k g = subst (KeepsPages old) (sym g) k
@@ -101,8 +107,8 @@ keeps_on (suc n) old r t k (m, g, f, is) = subst (KeepsPages old) (sym is) (keep
 pub one_gone : (r t : Run) → IsOneRun r → HasGone r t → IsOneRun t
 one_gone r t one g = one_on g.moves r t one g.goes
 
-pub led_gone : (r t : Run) (h : ℕ) (s : Replay FlatState) → IsOneRun r → HasGone r t → HasLed r h s → HasLed t h s
-led_gone r t h s one g led = led_on g.moves r t h s one led g.goes
+pub led_gone : (unit : ℕ) (r t : Run) (h : ℕ) (s : Replay FlatState) → IsOneRun r → HasGone r t → HasLed unit r h s → HasLed unit t h s
+led_gone unit r t h s one g led = led_on unit g.moves r t h s one led g.goes
 
 pub keeps_gone : (old r t : Run) → HasGone r t → KeepsPages old r → KeepsPages old t
 keeps_gone old r t g k = keeps_on g.moves old r t k g.goes

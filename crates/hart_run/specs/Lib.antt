@@ -1,2 +1,4 @@
 pub mod Known
+pub mod Shifts
 pub mod Bursts
+pub mod Calls

@@ -1,58 +1,34 @@
 //! The run of one hart.
 
 ghost use Rattle.std.specs.Option.{option_copied, option_map};
-ghost use Rattle.order_rules.specs.Places.{is_number};
-ghost use Rattle.std.specs.Prelude.{ℕ, ◌≡◌, ◌≢◌, ◌+◌, ◌-◌, ◌*◌, ◌/◌, ◌%◌, ◌^◌, ◌<◌, ◌≤◌, ◌∷◌, [], find, length, nat_lt, slice_get, false, None, Some, IsSome, MatchOption, IfOk};
+ghost use Rattle.std.specs.Prelude.{ℕ, ◌≡◌, ◌%◌, ◌^◌, ◌-◌, ◌<◌, ◌≤◌, ◌∷◌, [], length, nat_lt, Some, IfOk};
+ghost use Rattle.rv_words.specs.Limits.{IsUnit};
 ghost use Rattle.rv_words.specs.declared.shared.Mode.TheVariants.{Read};
+ghost use Rattle.rv_hart.specs.Bursts.{reads_csr};
 ghost use Rattle.rv_hart.specs.Effects.{effect_of};
-ghost use Rattle.rv_hart.specs.Moves.{after, need_of, with_csrs};
 ghost use Rattle.rv_hart.specs.Needs.{page_at, data_pages};
 ghost use Rattle.rv_hart.specs.Places.{WordInMemory, NeedIsThere, WritesInMemory, IsSound};
-ghost use Rattle.rv_csr.specs.Traps.{with_lines};
+ghost use Rattle.flat_machine.specs.Moves.{place_in_memory};
 ghost use Rattle.log_entry.specs.Parts.{strength};
-ghost use Rattle.flat_machine.specs.State.{FlatState};
-ghost use Rattle.flat_machine.specs.Moves.{next_move};
-ghost use Rattle.replay_model.specs.Board.{board};
-ghost use Rattle.replay_model.specs.State.{Replay, IsCrewState};
-ghost use Rattle.run_model.specs.Agreement.{Agrees, IsAhead, IsFirst, PageOf, StoreHas, Yields, word_seen, pages_known, with_hart, with_move, with_page_held};
-ghost use Rattle.run_model.specs.Legs.{KeepsPages, MakesLeg};
-ghost use Rattle.rv_hart.specs.Bursts.{reads_csr};
+ghost use Rattle.order_rules.specs.Places.{is_number};
+ghost use Rattle.run_model.specs.Legs.{KeepsPages};
+ghost use Rattle.run_model.specs.Run.{run_at_start, hold_of, lacks, word_held, word_of, LoadsOrAsks, ahead_of, stored_in, FrameOf};
+ghost use Rattle.run_model.specs.Run.{stronger, needed_in, most_needed, claim_of, IsAbove, Steps, IsAtDevice, AheadAt, touched_by};
+ghost use Rattle.run_model.specs.Run.{taken, store_taken, given, store_given, hart_given, ends_with};
 ghost use Rattle.hart_run.specs.Bursts.{HasGone, Passes};
-ghost use Rattle.run_model.specs.Run as runs;
-ghost use Rattle.run_model.specs.Run.{run_at_start, hold_of, lacks, word_held, word_of, move_held, LoadsOrAsks, ahead_of, moved_by, stored_in, stronger, needed_in, most_needed, claim_of, IsAbove, taken, store_taken, given, store_given, frames_given, hart_given, ends_with, touched_by, FrameOf, Steps, IsAtDevice, AheadAt};
+ghost use Rattle.hart_run.specs.Calls.{StartAgrees, AheadAgrees, WordAgrees, FrameAgrees, ClaimAgrees, LegAgrees};
+ghost use Rattle.hart_run.specs.Calls.{TouchAgrees, LinesAgree, TakeAgrees, GiveAgrees, lined, bytes_given};
 
 use crate::decoded::Decodings;
 use elf_image::Image;
 use guest_pages::{Page, PageStore};
+use run_model::{Ahead, Pause};
 use rv_decode::Instr;
 use rv_hart::{Effect, Fetch, Hart, Need, Wrote};
-use rv_words::{Access, Mode};
+use rv_words::Mode;
 use shared_types::NoMemory;
 use std::alloc::Global;
 use std::marker::Model;
-
-/// Why a run paused.
-#[derive(Clone, Copy, Debug, PartialEq, Eq)]
-pub enum Pause {
-    /// The count was reached.
-    Due,
-    /// The next move needs this page, which isn't held so.
-    Wants(u32, Mode),
-    /// The next move is this device access.
-    AtDevice(Access),
-}
-
-/// What a hart's next move asks for.
-#[derive(Clone, Copy, Debug, PartialEq, Eq)]
-pub enum Ahead {
-    /// Nothing: the hart can make it.
-    Free,
-    Wants(u32, Mode),
-    AtDevice(Access),
-}
-
-/// The bytes of a page.
-const UNIT: u32 = 4096;
 
 /// A hart with its count and a frame for each page of the memory, held or spare.
 #[derive(Drop)]
@@ -61,25 +37,34 @@ pub struct HartRun {
     count: u64,
     held: Vec<Option<Mode>>,
     frames: PageStore,
+    /// A page has 2 to the power of `shift` bytes, and the bits of `mask` are the place in it.
+    shift: u32,
+    mask: u32,
     decodings: Decodings,
 }
 
 impl Model for HartRun {
     ghost use Rattle.run_model.specs.Run as runs;
-    ghost use Rattle.run_model.specs.Run.{IsOneRun};
+    ghost use Rattle.hart_run.specs.Shifts.{IsShifted, run_of};
 
     ghost Value = { runs.Run };
 
-    ghost view = { λ r. record { hart = r.hart; count = r.count; held = r.held.items; frames = r.frames } };
+    ghost view = { λ r. run_of r.hart r.count r.held.items r.frames };
 
-    ghost invariant = { λ r. IsOneRun (record { hart = r.hart; count = r.count; held = r.held.items; frames = r.frames }) };
+    ghost invariant = { λ r. IsShifted (run_of r.hart r.count r.held.items r.frames) r.shift r.mask };
 }
 
-fn page_at(at: u32) -> u32
-    requires { 0x80000000 ≤ at }
-    ensures { result ≡ page_at 4096 at }
+/// By how much an address is shifted to its page.
+fn shift_of(unit: u16) -> u32
+    requires { IsUnit unit }
+    ensures unit { unit ≡ 2 ^ result }
+    ensures most { result ≤ 12 }
 {
-    (at - 0x8000_0000) / UNIT
+    match unit {
+        256 => 8,
+        1024 => 10,
+        _ => 12,
+    }
 }
 
 /// Whether a hold is of less than a mode.
@@ -102,30 +87,6 @@ fn stronger(one: Option<Mode>, other: Option<Mode>) -> Option<Mode>
     }
 }
 
-/// The mode, where the address lies in the page.
-fn needed_at(at: u32, mode: Mode, page: u32) -> Option<Mode>
-    requires { 0x80000000 ≤ at }
-    ensures { result ≡ needed_in page (page_at 4096 at, mode) }
-{
-    if page_at(at) == page {
-        Some(mode)
-    } else {
-        None
-    }
-}
-
-/// The mode in which the data of a move need the page.
-fn needed_for(need: Need, page: u32) -> Option<Mode>
-    requires { IsAbove need }
-    ensures { result ≡ most_needed page (data_pages 4096 need) }
-{
-    match need {
-        Need::Load(at) => needed_at(at, Mode::Read, page),
-        Need::Store(at) | Need::Exclusive(at) => needed_at(at, Mode::Write, page),
-        Need::Device(_) | Need::Nothing => None,
-    }
-}
-
 /// Whether an instruction reads a control register.
 fn reads_csr(i: Instr) -> bool
     ensures { result ≡ reads_csr i }
@@ -138,7 +99,7 @@ impl HartRun {
     pub fn start(alloc: Global, id: u8, harts: u8, image: &Image) -> Result<HartRun, NoMemory>
         requires { id < harts }
         ensures run { IfOk result (λ r. r ≡ run_at_start id harts image.now) }
-        ensures agrees { IfOk result (λ r. (s : Replay FlatState) → IsFirst image.now harts s → Agrees r id s) }
+        ensures agrees { IfOk result (StartAgrees image.now harts id) }
     {
         let number = image.bytes().len() / usize::from(image.unit());
         let Ok(held) = Vec::from_elem(alloc, None, number) else {
@@ -146,12 +107,15 @@ impl HartRun {
         };
         let frames = PageStore::blank(alloc, number as u32, image.unit())?;
         let decodings = Decodings::start(alloc)?;
+        let shift = shift_of(image.unit());
         let hart = Hart::start(id, harts, image.pages(), image.entry());
         Ok(HartRun {
             hart,
             count: 0,
             held,
             frames,
+            shift,
+            mask: (1 << shift) - 1,
             decodings,
         })
     }
@@ -169,12 +133,54 @@ impl HartRun {
         &self.hart
     }
 
+    /// The page of an address.
+    #[inline(always)]
+    fn page_at(&self, at: u32) -> u32
+        requires { 0x80000000 ≤ at }
+        ensures { result ≡ page_at self.now.frames.unit at }
+    {
+        (at - 0x8000_0000) >> self.shift
+    }
+
+    /// The place of an address in its page.
+    #[inline(always)]
+    fn place_at(&self, at: u32) -> u16
+        requires { 0x80000000 ≤ at }
+        ensures { result ≡ place_in_memory at % self.now.frames.unit }
+    {
+        ((at - 0x8000_0000) & self.mask) as u16
+    }
+
+    /// The mode, where the address lies in the page.
+    fn needed_at(&self, at: u32, mode: Mode, page: u32) -> Option<Mode>
+        requires { 0x80000000 ≤ at }
+        ensures { result ≡ needed_in page (page_at self.now.frames.unit at, mode) }
+    {
+        if self.page_at(at) == page {
+            Some(mode)
+        } else {
+            None
+        }
+    }
+
+    /// The mode in which the data of a move need the page.
+    fn needed_for(&self, need: Need, page: u32) -> Option<Mode>
+        requires { IsAbove need }
+        ensures { result ≡ most_needed page (data_pages self.now.frames.unit need) }
+    {
+        match need {
+            Need::Load(at) => self.needed_at(at, Mode::Read, page),
+            Need::Store(at) | Need::Exclusive(at) => self.needed_at(at, Mode::Write, page),
+            Need::Device(_) | Need::Nothing => None,
+        }
+    }
+
     /// Whether the page of an address is held in no such mode.
     fn lacks(&self, at: u32, mode: Mode) -> bool
         requires { WordInMemory self.now.hart.pages at }
         ensures { result ≡ lacks self.now (page_at self.now.frames.unit at, mode) }
     {
-        is_less(self.held[page_at(at) as usize], mode)
+        is_less(self.held[self.page_at(at) as usize], mode)
     }
 
     /// The aligned word round an address, of its frame.
@@ -182,8 +188,9 @@ impl HartRun {
         requires { WordInMemory self.now.hart.pages at }
         ensures { result ≡ word_held self.now at }
     {
-        let place = (at / 4 * 4 - 0x8000_0000) % UNIT;
-        self.frames.page(page_at(at)).load(place as u16)
+        self.frames
+            .page(self.page_at(at))
+            .load(self.place_at(at / 4 * 4))
     }
 
     /// The word that the data of a move load, 0 where they load none; else what they ask for.
@@ -195,19 +202,19 @@ impl HartRun {
         match need {
             Need::Load(at) => {
                 if self.lacks(at, Mode::Read) {
-                    return Err(Ahead::Wants(page_at(at), Mode::Read));
+                    return Err(Ahead::Wants(self.page_at(at), Mode::Read));
                 }
                 Ok(self.word_held(at))
             }
             Need::Exclusive(at) => {
                 if self.lacks(at, Mode::Write) {
-                    return Err(Ahead::Wants(page_at(at), Mode::Write));
+                    return Err(Ahead::Wants(self.page_at(at), Mode::Write));
                 }
                 Ok(self.word_held(at))
             }
             Need::Store(at) => {
                 if self.lacks(at, Mode::Write) {
-                    return Err(Ahead::Wants(page_at(at), Mode::Write));
+                    return Err(Ahead::Wants(self.page_at(at), Mode::Write));
                 }
                 Ok(0)
             }
@@ -219,12 +226,12 @@ impl HartRun {
     /// What the next move asks for, without making it.
     pub fn ahead(&self) -> Ahead
         ensures ahead { result ≡ ahead_of self.now }
-        ensures agrees { (h : ℕ) (s : Replay FlatState) → Agrees self.now h s → IsAhead h s result }
+        ensures agrees { AheadAgrees self.now result }
     {
         match self.hart.fetch_need() {
             Fetch::At(pc) => {
                 if self.lacks(pc, Mode::Read) {
-                    return Ahead::Wants(page_at(pc), Mode::Read);
+                    return Ahead::Wants(self.page_at(pc), Mode::Read);
                 }
                 let word = self.word_held(pc);
                 match self.loaded(self.hart.data_need(word)) {
@@ -239,7 +246,7 @@ impl HartRun {
     /// The word at the pc; None exactly where the next move fetches none, or its page isn't held.
     pub fn word(&self) -> Option<u32>
         ensures word { result ≡ word_of self.now }
-        ensures agrees { (h : ℕ) (s : Replay FlatState) → Agrees self.now h s → result ≡ word_seen s h self.now.hart }
+        ensures agrees { WordAgrees self.now result }
     {
         match self.hart.fetch_need() {
             Fetch::At(pc) => {
@@ -255,7 +262,7 @@ impl HartRun {
     /// The page as the hart holds it; None exactly where it doesn't hold it.
     pub fn frame(&self, page: u32) -> Option<&Page>
         ensures frame { FrameOf self.now page (option_copied result) }
-        ensures agrees { (h : ℕ) (s : Replay FlatState) → Agrees self.now h s → PageOf s h page (option_copied result) }
+        ensures agrees { FrameAgrees self.now page (option_copied result) }
     {
         match self.held.get(page as usize) {
             Some(Some(_)) => Some(self.frames.page(page)),
@@ -267,16 +274,16 @@ impl HartRun {
     /// fetches from is held.
     pub fn claim(&self, page: u32) -> Option<Mode>
         ensures claim { result ≡ claim_of self.now page }
-        ensures agrees { (h : ℕ) (s : Replay FlatState) → Agrees self.now h s → result ≡ most_needed page (pages_known s h self.now.hart) }
+        ensures agrees { ClaimAgrees self.now page result }
     {
         match self.hart.fetch_need() {
             Fetch::At(pc) => {
-                let fetch = needed_at(pc, Mode::Read, page);
+                let fetch = self.needed_at(pc, Mode::Read, page);
                 if self.lacks(pc, Mode::Read) {
                     return fetch;
                 }
                 let word = self.word_held(pc);
-                stronger(fetch, needed_for(self.hart.data_need(word), page))
+                stronger(fetch, self.needed_for(self.hart.data_need(word), page))
             }
             Fetch::Interrupt | Fetch::Fault => None,
         }
@@ -327,7 +334,7 @@ impl HartRun {
         match self.hart.fetch_need() {
             Fetch::At(pc) => {
                 if self.lacks(pc, Mode::Read) {
-                    return Ahead::Wants(page_at(pc), Mode::Read);
+                    return Ahead::Wants(self.page_at(pc), Mode::Read);
                 }
                 let word = self.word_held(pc);
                 self.execute(word)
@@ -346,7 +353,7 @@ impl HartRun {
     fn pass(&mut self) -> bool
         ensures { Passes self.old self.new result }
     {
-        let Some(pc) = self.hart.place() else {
+        let Some(pc) = self.hart.fetch_place() else {
             return false;
         };
         if self.lacks(pc, Mode::Read) {
@@ -399,7 +406,7 @@ impl HartRun {
         requires { self.old.count ≤ until }
         ensures pause { AheadAt self.new until result }
         ensures kept { KeepsPages self.old self.new }
-        ensures leg { (h : ℕ) (s : Replay FlatState) → IsCrewState board s → Agrees self.old h s → MakesLeg self.new result h until s }
+        ensures leg { LegAgrees self.old self.new until result }
     {
         while self.count < until {
             self.burst(until);
@@ -420,7 +427,7 @@ impl HartRun {
         requires device { IsAtDevice (ahead_of self.old) }
         requires count { self.old.count < 2 ^ 64 - 1 }
         ensures touched { self.new ≡ touched_by self.old loaded }
-        ensures agrees { (h : ℕ) (s : Replay FlatState) → Agrees self.old h s → Agrees self.new h (with_move h (after self.old.hart (next_move self.old.hart s.flat.memory) loaded) s) }
+        ensures agrees { TouchAgrees self.old self.new loaded }
     {
         if let Fetch::At(pc) = self.hart.fetch_need() {
             let word = self.word_held(pc);
@@ -432,8 +439,8 @@ impl HartRun {
     /// Sets the hart's lines: bit 0 software, bit 1 timer.
     pub fn set_lines(&mut self, lines: u8)
         requires { lines < 4 }
-        ensures lines { self.new ≡ record self.old { hart = with_csrs (with_lines lines self.old.hart.csrs) self.old.hart } }
-        ensures agrees { (h : ℕ) (s : Replay FlatState) → Agrees self.old h s → Agrees self.new h (with_hart h (with_csrs (with_lines lines self.old.hart.csrs) self.old.hart) s) }
+        ensures lines { self.new ≡ record self.old { hart = lined lines self.old.hart } }
+        ensures agrees { LinesAgree self.old self.new lines }
     {
         self.hart.set_lines(lines);
     }
@@ -447,7 +454,7 @@ impl HartRun {
         requires pages { length store.old.pages ≡ length self.old.frames.pages }
         ensures run { self.new ≡ taken self.old page mode store.old }
         ensures store { store.new ≡ store_taken self.old page mode store.old }
-        ensures agrees { (h : ℕ) (s : Replay FlatState) → Agrees self.old h s → StoreHas store.old page s → Agrees self.new h (with_page_held h page (Some mode) s) }
+        ensures agrees { TakeAgrees self.old self.new page mode store.old }
     {
         match mode {
             Mode::Read => self.frames.fill(page, store.page(page).bytes()),
@@ -466,7 +473,7 @@ impl HartRun {
         ensures run { self.new ≡ given self.old page left store.old }
         ensures store { store.new ≡ store_given self.old page (hold_of self.old page) store.old }
         ensures answer { result ≡ ends_with self.old page }
-        ensures agrees { (h : ℕ) (s : Replay FlatState) → Agrees self.old h s → Yields self.new store.new h page left result s }
+        ensures agrees { GiveAgrees self.old self.new page left store.new result }
     {
         let ends = self.lose_with(page);
         self.give_bytes(page, left, store);
@@ -493,7 +500,7 @@ impl HartRun {
         ensures { result ≡ is_number page (option_map (page_at self.now.frames.unit) self.now.hart.reserved) }
     {
         match self.hart.reserved() {
-            Some(at) => at.saturating_sub(0x8000_0000) / UNIT == page,
+            Some(at) => at.saturating_sub(0x8000_0000) >> self.shift == page,
             None => false,
         }
     }
@@ -504,7 +511,7 @@ impl HartRun {
         requires page { page < length self.old.frames.pages }
         requires unit { store.old.unit ≡ self.old.frames.unit }
         requires pages { length store.old.pages ≡ length self.old.frames.pages }
-        ensures run { self.new ≡ record self.old { frames = frames_given self.old page (hold_of self.old page) left store.old } }
+        ensures run { self.new ≡ bytes_given self.old page left store.old }
         ensures store { store.new ≡ store_given self.old page (hold_of self.old page) store.old }
     {
         match (self.held[page as usize], left) {
@@ -520,8 +527,9 @@ impl HartRun {
         ensures { self.new ≡ record self.old { frames = stored_in self.old.frames wrote } }
     {
         if let Wrote::Bytes { at, size, value } = wrote {
-            let place = (at - 0x8000_0000) % UNIT;
-            self.frames.store(page_at(at), place as u16, size, value);
+            let page = self.page_at(at);
+            let place = self.place_at(at);
+            self.frames.store(page, place, size, value);
         }
     }
 }

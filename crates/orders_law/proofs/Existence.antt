@@ -1,5 +1,7 @@
 -- Where there is a full order there is the least one: its next move is found in the full order and pulled to its front.
-use Rattle.std.proofs.Common.{◌≡◌, ℕ, zero, suc, ◌≤◌, List, [], ◌∷◌, length, Option, Some, None, Bool, true, false, cond, find, is_some, refl, sym, ◌∙◌, subst, arith}
+use Rattle.std.proofs.Common.{inl, ◌≡◌, ℕ, zero, suc, ◌≤◌, List, [], ◌∷◌, length, Option, Some, None, Bool, true, false, cond, find, is_some, refl}
+use Rattle.std.proofs.Common.{sym, ◌∙◌, subst, arith}
+use Rattle.shared_types.proofs.Lists.{is_there}
 use Rattle.std.specs.Option.{option_or}
 use Rattle.std.proofs.lemmas.Option.{none-some, same_Some}
 use Rattle.std.proofs.lemmas.List.Folds.{find-append}
@@ -18,11 +20,8 @@ found_first (Some k) other h P f g e = f e
 found_passes : (test : ℕ → Bool) (n h : ℕ) → find test (below n) ≡ Some h → test h ≡ true
 found_passes test zero h e = absurd (none-some _ e)
 found_passes test (suc n) h e =
-    found_first (find test (below n)) (cond (test n) (Some n) None) h (test h ≡ true) (found_passes test n h) (last_is test n h (test n) refl) (sym (find-append test (below n) (n ∷ [])) ∙ e)
-
-is_there : {X : Type 0} (o : Option X) → is_some o ≡ true → (x : X) × (o ≡ Some x)
-is_there None e = cc
-is_there (Some x) e = (x, refl)
+    found_first (find test (below n)) (cond (test n) (Some n) None) h (test h ≡ true) (found_passes test n h) (last_is test n h (test n) refl)
+    (sym (find-append test (below n) (n ∷ [])) ∙ e)
 
 module _ {S E : Type 0} (step : ℕ → S → Option (S × E)) (good : S → Type 0) (lasts : Lasts step good) (commutes : Commutes step good) where
   stays : (s t : S) (xs : List (ℕ × E)) → ((h : ℕ) → step h s ≡ None) → Leads step s xs t → s ≡ t
@@ -38,11 +37,12 @@ module _ {S E : Type 0} (step : ℕ → S → Option (S × E)) (good : S → Typ
   on harts s t xs ok none full more None e = ([], (e, stays s t xs (least_is_over step harts s (λ h l. none h s l) e) full.leads))
   on harts s t xs ok none full more (Some h) e =
       let x = is_there (step h s) (found_passes (λ g. is_some (step g s)) harts h e) in
-      let pulled = pull step good lasts commutes h s x.0.0 x.0.1 xs t ok x.1 (full.over h) full.leads in
+      let pulled = pull step good lasts commutes h s x.0.0 x.0.1 xs t ok x.1 (inl (full.over h)) full.leads in
       let rest = more x.0.0 pulled.rest pulled.size (lasts s x.0.0 x.0.1 h ok x.1) (record { leads = pulled.leads; over = full.over }) in
       ((h, x.0.1) ∷ rest.0, (e, (x.0.0, x.1, rest.1)))
 
-  of_size : (size harts : ℕ) (s t : S) (xs : List (ℕ × E)) → length xs ≡ size → good s → ((h : ℕ) (a : S) → harts ≤ h → step h a ≡ None) → IsFull step s xs t → Least harts s t
+  of_size : (size harts : ℕ) (s t : S) (xs : List (ℕ × E)) → length xs ≡ size → good s → ((h : ℕ) (a : S) → harts ≤ h → step h a ≡ None) → IsFull step s xs t
+      → Least harts s t
   of_size zero harts s t xs long ok none full = on harts s t xs ok none full (λ m ys e _ _. absurd (omega (arith, long, e))) (least step harts s) refl
   of_size (suc size) harts s t xs long ok none full =
       on harts s t xs ok none full (λ m ys e ok' full'. of_size size harts m t ys (omega (arith, long, e)) ok' none full') (least step harts s) refl

@@ -42,15 +42,18 @@ module _ (log : Log) where
 
   module _ (pages_right : Keeps log o5) (ordinals_right : Keeps log o8) where
     -- after another's taking the same entry is taken
-    again : (c m t : Cursor) (h i : ℕ) (y : Entry) → first_left log m h ≡ Some y → take_one log h m ≡ Some (t, i) → (guard_is_met m y ≡ true) × (taken m h y ≡ t)
+    again : (c m t : Cursor) (h i : ℕ) (y : Entry) → first_left log m h ≡ Some y → take_one log h m ≡ Some (t, i) → (guard_is_met m y ≡ true)
+        × (taken m h y ≡ t)
     again c m t h i y first did =
         let x = took log h m t i did in
         let same : x.entry ≡ y = same_Some _ _ (sym x.first ∙ first) in
         (ap (guard_is_met m) (sym same) ∙ x.guard, ap (taken m h) (sym same) ∙ x.cursor)
 
-    both : (c : Cursor) (g h : ℕ) (x y : Entry) → g ≢ h → first_left log c g ≡ Some x → first_left log c h ≡ Some y → guard_is_met c x ≡ true → guard_is_met c y ≡ true → Takings c g h (Makes x) (Makes y)
+    both : (c : Cursor) (g h : ℕ) (x y : Entry) → g ≢ h → first_left log c g ≡ Some x → first_left log c h ≡ Some y → guard_is_met c x ≡ true
+        → guard_is_met c y ≡ true → Takings c g h (Makes x) (Makes y)
     both c g h x y n left_x left_y guard_x guard_y =
-        let met = takings_commute log pages_right ordinals_right c (taken c g x) (taken c h y) (slice_index c.places g) (slice_index c.places h) g h tt n (takes log g c x left_x guard_x) (takes log h c y left_y guard_y) in
+        let met = takings_commute log pages_right ordinals_right c (taken c g x) (taken c h y) (slice_index c.places g) (slice_index c.places h) g h tt n
+        (takes log g c x left_x guard_x) (takes log h c y left_y guard_y) in
         let two = again c (taken c g x) met.0 h (slice_index c.places h) y (left_stays c g h (Makes x) (λ e. n (sym e)) ∙ left_y) met.1 in
         let one = again c (taken c h y) met.0 g (slice_index c.places g) x (left_stays c h g (Makes y) n ∙ left_x) met.2 in
         record { guard_two = two.0; guard_one = one.0; same = two.1 ∙ sym one.1 }
@@ -70,7 +73,9 @@ module _ (log : Log) where
     same_hart g h x y o a b = let p : ℕ × Entry = (g, x) in let q : ℕ × Entry = (h, y) in ap (λ (z : ℕ × Entry). z.0) (same_Some p q (sym a ∙ b))
 
     -- two harts don't both have the next ordinal
-    pub one_ordinal : (c : Cursor) (g h k : ℕ) (x y : Entry) → g ≢ h → first_left log c g ≡ Some x → first_left log c h ≡ Some y → ordinal_of x ≡ Some k → ordinal_of y ≡ Some k → ⊥
+    pub one_ordinal : (c : Cursor) (g h k : ℕ) (x y : Entry) → g ≢ h → first_left log c g ≡ Some x → first_left log c h ≡ Some y → ordinal_of x ≡ Some k
+        → ordinal_of y ≡ Some k → ⊥
     one_ordinal c g h k x y n left_x left_y is_x is_y =
         n (same_hart g h x y (find (λ (z : ℕ × Entry). is_number k (ordinal_of z.1)) (by_hart log))
-        (ordinals_name log g (slice_index c.places g) k x ordinals_right left_x is_x) (ordinals_name log h (slice_index c.places h) k y ordinals_right left_y is_y))
+        (ordinals_name log g (slice_index c.places g) k x ordinals_right left_x is_x)
+        (ordinals_name log h (slice_index c.places h) k y ordinals_right left_y is_y))

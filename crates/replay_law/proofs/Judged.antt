@@ -1,5 +1,6 @@
 -- A hart that can go still can when another went.
-use Rattle.std.proofs.Common.{◌≡◌, ℕ, ◌==◌, ◌&&◌, not, Bool, true, false, List, [], ◌∷◌, find, nat_lt, Option, Some, None, is_some, refl, ap, ap₂, ◌∙◌, subst, if◌then◌else◌, true≢false}
+use Rattle.std.proofs.Common.{◌≡◌, ℕ, ◌==◌, ◌&&◌, not, Bool, true, false, List, [], ◌∷◌, find, nat_lt, Option, Some, None, is_some, refl, ap, ap₂}
+use Rattle.std.proofs.Common.{◌∙◌, subst, if◌then◌else◌, true≢false}
 use Rattle.std.specs.Option.{option_map}
 use Rattle.std.proofs.lemmas.Option.{none-some, same_Some}
 use Rattle.rv_words.specs.declared.shared.Mode.{Mode}
@@ -15,7 +16,7 @@ use Rattle.replay_model.specs.Flat.{Flat}
 use Rattle.order_rules.specs.Holders.{held}
 use Rattle.replay_model.specs.State.{Replay, want}
 use Rattle.replay_model.specs.Items.{Item, Ended, Move, Makes, Verdict, Holds, CanGo, HasDiverged, judged, tests, verdict_on}
-use Rattle.hart_run.proofs.Lists.{find_same}
+use Rattle.shared_types.proofs.Lists.{find_same}
 use Rattle.replay_law.proofs.Local.{HasPages, HasDevices, actor}
 use Rattle.replay_law.proofs.Went.{is_lost, act_with, act_of}
 use Rattle.replay_law.proofs.Cursors.{guard_of}
@@ -62,7 +63,8 @@ module _ {S V : Type 0} (flat : Flat S V) where
 
   pub want_stays : (s a : Replay S) (h : ℕ) → Finds s a h → want flat s h ≡ None → want flat a h ≡ None
   want_stays s a h finds none =
-      find_same (λ (n : ℕ × Mode). nat_lt (strength (held a.holders n.0 h)) (strength (Some n.1))) (λ (n : ℕ × Mode). nat_lt (strength (held s.holders n.0 h)) (strength (Some n.1))) (flat.need a.flat h)
+      find_same (λ (n : ℕ × Mode). nat_lt (strength (held a.holders n.0 h)) (strength (Some n.1)))
+      (λ (n : ℕ × Mode). nat_lt (strength (held s.holders n.0 h)) (strength (Some n.1))) (flat.need a.flat h)
       (λ n. ap (λ m. nat_lt (strength m) (strength (Some n.1))) (finds.held_is n.0))
       ∙ ap (find (λ (n : ℕ × Mode). nat_lt (strength (held s.holders n.0 h)) (strength (Some n.1)))) (finds.need none) ∙ none
 
@@ -77,13 +79,16 @@ module _ {S V : Type 0} (flat : Flat S V) where
   touch_stays : (s a : Replay S) (h count ord : ℕ) (input : Input) → Finds s a h → HasDevices flat s a.flat h
       → judge (tests flat s h (Makes (entries.Touch count ord input))) ≡ CanGo → judge (tests flat a h (Makes (entries.Touch count ord input))) ≡ CanGo
   touch_stays s a h count ord input finds devices go =
-      let one = passed 1 (is_some (want flat s h)) ((3, not (flat.is_at_device s.flat h)) ∷ (4, not (flat.suits s.flat h input)) ∷ (6, flat.is_stopped s.flat) ∷ []) go in
+      let one = passed 1 (is_some (want flat s h)) ((3, not (flat.is_at_device s.flat h)) ∷ (4, not (flat.suits s.flat h input)) ∷
+      (6, flat.is_stopped s.flat) ∷ []) go in
       let two = passed 3 (not (flat.is_at_device s.flat h)) ((4, not (flat.suits s.flat h input)) ∷ (6, flat.is_stopped s.flat) ∷ []) one.1 in
       let three = passed 4 (not (flat.suits s.flat h input)) ((6, flat.is_stopped s.flat) ∷ []) two.1 in
       let four = passed 6 (flat.is_stopped s.flat) [] three.1 in
       let none = nothing (want flat s h) one.0 in
-      passes 1 (is_some (want flat a h)) ((3, not (flat.is_at_device a.flat h)) ∷ (4, not (flat.suits a.flat h input)) ∷ (6, flat.is_stopped a.flat) ∷ []) (ap is_some (want_stays s a h finds none))
-      (passes 3 (not (flat.is_at_device a.flat h)) ((4, not (flat.suits a.flat h input)) ∷ (6, flat.is_stopped a.flat) ∷ []) (ap not (finds.at_device none) ∙ two.0)
+      passes 1 (is_some (want flat a h)) ((3, not (flat.is_at_device a.flat h)) ∷ (4, not (flat.suits a.flat h input)) ∷ (6, flat.is_stopped a.flat) ∷ [])
+      (ap is_some (want_stays s a h finds none))
+      (passes 3 (not (flat.is_at_device a.flat h)) ((4, not (flat.suits a.flat h input)) ∷ (6, flat.is_stopped a.flat) ∷ [])
+      (ap not (finds.at_device none) ∙ two.0)
       (passes 4 (not (flat.suits a.flat h input)) ((6, flat.is_stopped a.flat) ∷ []) (ap not (devices.suits none input) ∙ three.0)
       (passes 6 (flat.is_stopped a.flat) [] (devices.stopped ∙ four.0) refl)))
 
@@ -109,7 +114,8 @@ module _ {S V : Type 0} (flat : Flat S V) where
   guard_met s h (Makes e) go = (met (guard_is_met s.cursor e) (judge (tests flat s h (Makes e))) go).0
 
   -- its verdict stays
-  pub verdict_stays : (s a : Replay S) (h : ℕ) (item : Item) → Finds s a h → (needs_devices item ≡ true → HasDevices flat s a.flat h) → guard_of a.cursor item ≡ true
+  pub verdict_stays : (s a : Replay S) (h : ℕ) (item : Item) → Finds s a h → (needs_devices item ≡ true → HasDevices flat s a.flat h)
+      → guard_of a.cursor item ≡ true
       → verdict_on flat s h item ≡ CanGo → verdict_on flat a h item ≡ CanGo
   verdict_stays s a h Ended finds devices guard go = go
   verdict_stays s a h Move finds devices guard go = move_stays s a h finds go
@@ -123,7 +129,8 @@ module _ {S V : Type 0} (flat : Flat S V) where
   act_stays s a h Move finds = refl
   act_stays s a h (Makes (entries.Gain count page seq mode waits)) finds = refl
   act_stays s a h (Makes (entries.Yield count page seq left)) finds =
-      ap (λ b. act_with b h (Makes (entries.Yield count page seq left))) (ap₂ (λ (m : Option Mode) (o : Option ℕ). (strength m == 2) && is_number page o) (finds.held_is page) finds.reserved)
+      ap (λ b. act_with b h (Makes (entries.Yield count page seq left)))
+      (ap₂ (λ (m : Option Mode) (o : Option ℕ). (strength m == 2) && is_number page o) (finds.held_is page) finds.reserved)
   act_stays s a h (Makes (entries.Poll count ord time bits)) finds = refl
   act_stays s a h (Makes (entries.Touch count ord input)) finds = refl
   act_stays s a h (Makes (entries.End count)) finds = refl
@@ -142,14 +149,20 @@ module _ {S V : Type 0} (flat : Flat S V) where
 
   pub act_is : (s : Replay S) (h : ℕ) (item : Item) (act : Act) → verdict_on flat s h item ≡ CanGo → act_of flat s h item ≡ Some act → ActIs s h act
   act_is s h Ended act go e = absurd (none-some _ e)
-  act_is s h Move act go e = subst (ActIs s h) (same_Some _ _ e) (record { by = refl; has = nothing (want flat s h) (passed 1 (is_some (want flat s h)) ((2, flat.is_at_device s.flat h) ∷ []) go).0 })
+  act_is s h Move act go e =
+      subst (ActIs s h) (same_Some _ _ e) (record {
+        by = refl;
+        has =
+            nothing (want flat s h) (passed 1 (is_some (want flat s h)) ((2, flat.is_at_device s.flat h) ∷ []) go).0;
+      })
   act_is s h (Makes (entries.Gain count page seq mode waits)) act go e = absurd (none-some _ e)
   act_is s h (Makes (entries.Yield count page seq left)) act go e = yields s h (is_lost flat s h (Makes (entries.Yield count page seq left))) act e
   act_is s h (Makes (entries.Poll count ord time bits)) act go e = subst (ActIs s h) (same_Some _ _ e) (record { by = refl; has = tt })
   act_is s h (Makes (entries.Touch count ord input)) act go e =
       subst (ActIs s h) (same_Some _ _ e) (record {
         by = refl;
-        has = nothing (want flat s h) (passed 1 (is_some (want flat s h)) ((3, not (flat.is_at_device s.flat h)) ∷ (4, not (flat.suits s.flat h input)) ∷ (6, flat.is_stopped s.flat) ∷ [])
+        has = nothing (want flat s h) (passed 1 (is_some (want flat s h))
+            ((3, not (flat.is_at_device s.flat h)) ∷ (4, not (flat.suits s.flat h input)) ∷ (6, flat.is_stopped s.flat) ∷ [])
             (met (ord == s.cursor.ordinal) (judge (tests flat s h (Makes (entries.Touch count ord input)))) go).1).0;
       })
   act_is s h (Makes (entries.End count)) act go e = absurd (none-some _ e)

@@ -9,8 +9,6 @@ pub mod Views
 pub mod Deeds
 pub mod Pages
 pub mod Boards
-pub mod Bounded
-pub mod Shares
 pub mod Atoms
 pub mod Orders
 pub mod Watched

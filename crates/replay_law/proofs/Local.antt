@@ -60,8 +60,10 @@ module _ {S V : Type 0} (flat : Flat S V) where
     pub record IsLocal : Type 0 where
       pub lasts : (s : Replay S) (act : Act) (t : S) → IsSound s → HasPages s act → flat.next s.flat act ≡ Some t → IsSound (record s { flat = t })
       pub loses : (s t : S) (h : ℕ) → flat.next s (Lose h) ≡ Some t → flat.reserved_page t h ≡ None
-      pub undisturbed : (s : Replay S) (act : Act) (t : S) (h : ℕ) → IsSound s → HasPages s act → flat.next s.flat act ≡ Some t → h ≢ actor act → IsUndisturbed s t h
-      pub devices : (s : Replay S) (act : Act) (t : S) (h : ℕ) → IsSound s → HasPages s act → flat.next s.flat act ≡ Some t → h ≢ actor act → is_on_devices act ≡ false → HasDevices s t h
+      pub undisturbed : (s : Replay S) (act : Act) (t : S) (h : ℕ) → IsSound s → HasPages s act → flat.next s.flat act ≡ Some t → h ≢ actor act
+          → IsUndisturbed s t h
+      pub devices : (s : Replay S) (act : Act) (t : S) (h : ℕ) → IsSound s → HasPages s act → flat.next s.flat act ≡ Some t → h ≢ actor act
+          → is_on_devices act ≡ false → HasDevices s t h
       pub meet : (s : Replay S) (one two : Act) (a b : S) → IsSound s → actor one ≢ actor two → (is_on_devices one ≡ true → is_on_devices two ≡ true → ⊥)
           → HasPages s one → HasPages s two → flat.next s.flat one ≡ Some a → flat.next s.flat two ≡ Some b → Meet s one two a b
       pub nobody : (s : S) (h : ℕ) → Sized s → harts ≤ h → flat.next s (Run h) ≡ None

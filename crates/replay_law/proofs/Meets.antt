@@ -48,8 +48,10 @@ has_ordinal c Ended d guard = absurd (true≢false (sym d))
 has_ordinal c Move d guard = absurd (true≢false (sym d))
 has_ordinal c (Makes (entries.Gain count page seq mode waits)) d guard = absurd (true≢false (sym d))
 has_ordinal c (Makes (entries.Yield count page seq left)) d guard = absurd (true≢false (sym d))
-has_ordinal c (Makes (entries.Poll count ord time bits)) d guard = record { entry = entries.Poll count ord time bits; is = refl; ordinal = ap Some (eqb-true ord c.ordinal guard) }
-has_ordinal c (Makes (entries.Touch count ord input)) d guard = record { entry = entries.Touch count ord input; is = refl; ordinal = ap Some (eqb-true ord c.ordinal guard) }
+has_ordinal c (Makes (entries.Poll count ord time bits)) d guard =
+    record { entry = entries.Poll count ord time bits; is = refl; ordinal = ap Some (eqb-true ord c.ordinal guard) }
+has_ordinal c (Makes (entries.Touch count ord input)) d guard =
+    record { entry = entries.Touch count ord input; is = refl; ordinal = ap Some (eqb-true ord c.ordinal guard) }
 has_ordinal c (Makes (entries.End count)) d guard = absurd (true≢false (sym d))
 
 yields_calm : (b : Bool) (h : ℕ) (act : Act) → (if b then Some (Lose h) else None) ≡ Some act → is_on_devices act ≡ false
@@ -90,7 +92,8 @@ module _ {S V : Type 0} (flat : Flat S V) where
   wants_nothing s (Poll h time) has m = absurd (true≢false (sym m))
   wants_nothing s (Lose h) has m = absurd (true≢false (sym m))
 
-  told_stays : (s a b t : Replay S) (h : ℕ) (item : Item) → (is_move (act_of flat s h item) ≡ true → flat.told s.flat h b.flat ≡ flat.told a.flat h t.flat) → told_of flat s h item b ≡ told_of flat a h item t
+  told_stays : (s a b t : Replay S) (h : ℕ) (item : Item) → (is_move (act_of flat s h item) ≡ true → flat.told s.flat h b.flat ≡ flat.told a.flat h t.flat)
+      → told_of flat s h item b ≡ told_of flat a h item t
   told_stays s a b t h Ended same = refl
   told_stays s a b t h Move same = ap Some (same refl)
   told_stays s a b t h (Makes (entries.Gain count page seq mode waits)) same = refl
@@ -103,7 +106,8 @@ module _ {S V : Type 0} (flat : Flat S V) where
     abbrev Sound : Replay S → Type 0
     Sound s = IsSound flat Sized harts pages s
 
-    undisturbed_after : (s : Replay S) (g h : ℕ) (p : Option Act) (a : S) → Sound s → h ≢ g → AreOwn s g p → flat_after flat s.flat p ≡ Some a → IsUndisturbed flat s a h
+    undisturbed_after : (s : Replay S) (g h : ℕ) (p : Option Act) (a : S) → Sound s → h ≢ g → AreOwn s g p → flat_after flat s.flat p ≡ Some a
+        → IsUndisturbed flat s a h
     undisturbed_after s g h None a sound n own e =
         let same : s.flat ≡ a = same_Some _ _ e in
         record {
@@ -114,7 +118,8 @@ module _ {S V : Type 0} (flat : Flat S V) where
         }
     undisturbed_after s g h (Some act) a sound n own e = let o = own act refl in local.undisturbed s act a h sound o.has e (λ is. n (is ∙ o.by))
 
-    devices_after : (s : Replay S) (g h : ℕ) (p : Option Act) (a : S) → Sound s → h ≢ g → AreOwn s g p → ((act : Act) → p ≡ Some act → is_on_devices act ≡ false) → flat_after flat s.flat p ≡ Some a → HasDevices flat s a h
+    devices_after : (s : Replay S) (g h : ℕ) (p : Option Act) (a : S) → Sound s → h ≢ g → AreOwn s g p
+        → ((act : Act) → p ≡ Some act → is_on_devices act ≡ false) → flat_after flat s.flat p ≡ Some a → HasDevices flat s a h
     devices_after s g h None a sound n own off e =
         let same : s.flat ≡ a = same_Some _ _ e in
         record {
@@ -166,7 +171,8 @@ module _ {S V : Type 0} (flat : Flat S V) where
         }
 
     -- a hart finds its part as it was when another went
-    pub finds_after : (s : Replay S) (g h : ℕ) (item : Item) (a : S) → Sound s → h ≢ g → verdict_on flat s g item ≡ CanGo → flat_after flat s.flat (act_of flat s g item) ≡ Some a → Finds flat s (built flat s g item a) h
+    pub finds_after : (s : Replay S) (g h : ℕ) (item : Item) (a : S) → Sound s → h ≢ g → verdict_on flat s g item ≡ CanGo
+        → flat_after flat s.flat (act_of flat s g item) ≡ Some a → Finds flat s (built flat s g item a) h
     finds_after s g h item a sound n go did =
         let u = undisturbed_after s g h (act_of flat s g item) a sound n (λ act e. act_is flat s g item act go e) did in
         record {
@@ -179,11 +185,13 @@ module _ {S V : Type 0} (flat : Flat S V) where
 
     module _ (log : Log) (pages_right : Keeps log o5) (ordinals_right : Keeps log o8) where
       -- two harts are not both on the devices
-      not_both : (s : Replay S) (g h : ℕ) (i j : Item) → g ≢ h → IsLeft log s.cursor g i → IsLeft log s.cursor h j → guard_of s.cursor i ≡ true → guard_of s.cursor j ≡ true → needs_devices i ≡ true → needs_devices j ≡ true → ⊥
+      not_both : (s : Replay S) (g h : ℕ) (i j : Item) → g ≢ h → IsLeft log s.cursor g i → IsLeft log s.cursor h j → guard_of s.cursor i ≡ true
+          → guard_of s.cursor j ≡ true → needs_devices i ≡ true → needs_devices j ≡ true → ⊥
       not_both s g h i j n left_i left_j guard_i guard_j d_i d_j =
           let x = has_ordinal s.cursor i d_i guard_i in
           let y = has_ordinal s.cursor j d_j guard_j in
-          one_ordinal log pages_right ordinals_right s.cursor g h s.cursor.ordinal x.entry y.entry n (subst (IsLeft log s.cursor g) x.is left_i) (subst (IsLeft log s.cursor h) y.is left_j) x.ordinal y.ordinal
+          one_ordinal log pages_right ordinals_right s.cursor g h s.cursor.ordinal x.entry y.entry n (subst (IsLeft log s.cursor g) x.is left_i)
+          (subst (IsLeft log s.cursor h) y.is left_j) x.ordinal y.ordinal
 
       -- the second hart's step after the first's
       then_goes : (s b : Replay S) (g h : ℕ) (x y : Item) (a end : S) (f : Option V) → Sound s → h ≢ g
@@ -198,16 +206,19 @@ module _ {S V : Type 0} (flat : Flat S V) where
           let finds : Finds flat s (built flat s g x a) h = finds_after s g h x a sound n go_x did_x in
           let next : next_item flat log (built flat s g x a) h ≡ y = ap₂ item_at finds.count (left_stays log s.cursor g h x n) ∙ next_y in
           let off : needs_devices y ≡ true → needs_devices x ≡ false = λ d. is_off (needs_devices x) (λ e. alone e d) in
-          let devices : needs_devices y ≡ true → HasDevices flat s a h = λ d. devices_after s g h (act_of flat s g x) a sound n (λ act e. act_is flat s g x act go_x e) (λ act e. calm _ g x act (off d) e) did_x in
+          let devices : needs_devices y ≡ true → HasDevices flat s a h =
+          λ d. devices_after s g h (act_of flat s g x) a sound n (λ act e. act_is flat s g x act go_x e) (λ act e. calm _ g x act (off d) e) did_x in
           let go : verdict_on flat (built flat s g x a) h y ≡ CanGo = verdict_stays flat s (built flat s g x a) h y finds devices guard go_y in
           step_goes flat log (built flat s g x a) h y end next go real (ap (flat_after flat a) (act_stays flat s (built flat s g x a) h y finds) ∙ did_y)
-          ∙ ap (λ o. Some (built flat (built flat s g x a) h y end, o)) (sym (is ∙ told_stays s (built flat s g x a) b (built flat (built flat s g x a) h y end) h y told))
+          ∙ ap (λ o. Some (built flat (built flat s g x a) h y end, o))
+          (sym (is ∙ told_stays s (built flat s g x a) b (built flat (built flat s g x a) h y end) h y told))
         where
           is_off : (b : Bool) → (b ≡ true → ⊥) → b ≡ false
           is_off true f = absurd (f refl)
           is_off false f = refl
 
-      apart_by : (s : Replay S) (g h : ℕ) (x y : Item) → (needs_devices x ≡ true → needs_devices y ≡ true → ⊥) → (one two : Act) → act_of flat s g x ≡ Some one → act_of flat s h y ≡ Some two → is_on_devices one ≡ true → is_on_devices two ≡ true → ⊥
+      apart_by : (s : Replay S) (g h : ℕ) (x y : Item) → (needs_devices x ≡ true → needs_devices y ≡ true → ⊥) → (one two : Act)
+          → act_of flat s g x ≡ Some one → act_of flat s h y ≡ Some two → is_on_devices one ≡ true → is_on_devices two ≡ true → ⊥
       apart_by s g h x y alone one two is_one is_two on_one on_two = by (needs_devices x) (needs_devices y) refl refl where
         by : (b c : Bool) → needs_devices x ≡ b → needs_devices y ≡ c → ⊥
         by true true d e = alone d e
@@ -225,10 +236,13 @@ module _ {S V : Type 0} (flat : Flat S V) where
           let guard_y = guard_met flat s h y.item y.go in
           let alone = not_both s g h x.item y.item n left_x left_y guard_x guard_y in
           let t = takings log pages_right ordinals_right s.cursor g h x.item y.item n left_x left_y guard_x guard_y in
-          let met = ends s g h (act_of flat s g x.item) (act_of flat s h y.item) a.flat b.flat sound n (λ act is. act_is flat s g x.item act x.go is) (λ act is. act_is flat s h y.item act y.go is)
+          let met = ends s g h (act_of flat s g x.item) (act_of flat s h y.item) a.flat b.flat sound n (λ act is. act_is flat s g x.item act x.go is)
+          (λ act is. act_is flat s h y.item act y.go is)
           (apart_by s g h x.item y.item alone) x.flat_is y.flat_is in
-          let two = then_goes s b g h x.item y.item a.flat met.end f sound turned x.go x.flat_is y.next y.go y.real alone t.guard_two met.then_two met.told_two y.told_is in
-          let one = then_goes s a h g y.item x.item b.flat met.end e sound n y.go y.flat_is x.next x.go x.real (λ d c. alone c d) t.guard_one met.then_one met.told_one x.told_is in
+          let two = then_goes s b g h x.item y.item a.flat met.end f sound turned x.go x.flat_is y.next y.go y.real alone t.guard_two met.then_two
+          met.told_two y.told_is in
+          let one = then_goes s a h g y.item x.item b.flat met.end e sound n y.go y.flat_is x.next x.go x.real
+          (λ d c. alone c d) t.guard_one met.then_one met.told_one x.told_is in
           let same : built flat (built flat s h y.item b.flat) g x.item met.end ≡ built flat (built flat s g x.item a.flat) h y.item met.end =
           λ i. record { flat = met.end; cursor = sym t.same i; holders = tables_meet s.holders h g (hold_in y.item) (hold_in x.item) turned i } in (
             built flat (built flat s g x.item a.flat) h y.item met.end,

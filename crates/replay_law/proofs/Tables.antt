@@ -3,7 +3,7 @@ use Rattle.std.proofs.Common.{◌≡◌, ◌≢◌, ℕ, zero, suc, List, [], �
 use Rattle.std.proofs.lemmas.List.{length-set}
 use Rattle.rv_words.specs.declared.shared.Mode.{Mode}
 use Rattle.order_rules.specs.Holders.{Holders, row, held, with_held}
-use Rattle.hart_run.proofs.Lists.{set_there}
+use Rattle.shared_types.proofs.Lists.{set_there}
 use Rattle.replay_law.proofs.Went.{holders_by}
 
 pub sets_swap : {X : Type 0} (xs : List X) (i j : ℕ) (a b : X) → i ≢ j → slice_set (slice_set xs i a) j b ≡ slice_set (slice_set xs j b) i a
@@ -27,7 +27,8 @@ row_size (r ∷ holders) zero (suc q) h hold = refl
 row_size (r ∷ holders) (suc page) zero h hold = refl
 row_size (r ∷ holders) (suc page) (suc q) h hold = row_size holders page q h hold
 
-holds_swap : (holders : Holders) (page q g h : ℕ) (x y : Option Mode) → g ≢ h → with_held (with_held holders page g x) q h y ≡ with_held (with_held holders q h y) page g x
+holds_swap : (holders : Holders) (page q g h : ℕ) (x y : Option Mode) → g ≢ h
+    → with_held (with_held holders page g x) q h y ≡ with_held (with_held holders q h y) page g x
 holds_swap [] page q g h x y n = refl
 holds_swap (r ∷ holders) zero zero g h x y n = ap (λ z. z ∷ holders) (sets_swap r g h x y n)
 holds_swap (r ∷ holders) zero (suc q) g h x y n = refl
@@ -47,7 +48,8 @@ pub rows_size : (holders : Holders) (q h : ℕ) (x : Option (ℕ × Option Mode)
 rows_size holders q h None = refl
 rows_size holders q h (Some x) = row_size holders x.0 q h x.1
 
-pub tables_meet : (holders : Holders) (g h : ℕ) (x y : Option (ℕ × Option Mode)) → g ≢ h → holders_by (holders_by holders g x) h y ≡ holders_by (holders_by holders h y) g x
+pub tables_meet : (holders : Holders) (g h : ℕ) (x y : Option (ℕ × Option Mode)) → g ≢ h
+    → holders_by (holders_by holders g x) h y ≡ holders_by (holders_by holders h y) g x
 tables_meet holders g h None y n = refl
 tables_meet holders g h (Some x) None n = refl
 tables_meet holders g h (Some x) (Some y) n = holds_swap holders x.0 y.0 g h x.1 y.1 n

@@ -1,5 +1,6 @@
 -- In an orderly log no Poll and no load of mtime goes back in time.
-use Rattle.std.proofs.Common.{◌≡◌, ℕ, suc, ◌+◌, ◌≤◌, ◌&&◌, not, nat_lt, nat_le, Bool, true, false, cond, List, [], ◌∷◌, ◌++◌, map, flat_map, find, Option, Some, None, slice_get, unwrap_or, refl, sym, ap, ap₂, ◌∙◌, subst, arith}
+use Rattle.std.proofs.Common.{◌≡◌, ℕ, suc, ◌+◌, ◌≤◌, ◌&&◌, not, nat_lt, nat_le, Bool, true, false, cond, List, [], ◌∷◌, ◌++◌, map, flat_map, find}
+use Rattle.std.proofs.Common.{Option, Some, None, slice_get, unwrap_or, refl, sym, ap, ap₂, ◌∙◌, subst, arith}
 use Rattle.std.specs.List.{list_all, enumerate_from}
 use Rattle.std.specs.Option.{option_map, option_and_then}
 use Rattle.std.proofs.lemmas.Bool.{ltb-false}
@@ -25,22 +26,31 @@ use Rattle.order_rules.proofs.Takings.{ordinals_name}
 abbrev at_place : ℕ → ℕ → Entry → Placed
 at_place h i e = record { hart = h; place = i; entry = e }
 
-all_in_row : (test : Placed → Bool) (h n : ℕ) (s : List Entry) → ((i : ℕ) (e : Entry) → slice_get s i ≡ Some e → test (at_place h (n + i) e) ≡ true) → list_all test (map (λ e. at_place h e.0 e.1) (enumerate_from n s)) ≡ true
+all_in_row : (test : Placed → Bool) (h n : ℕ) (s : List Entry) → ((i : ℕ) (e : Entry) → slice_get s i ≡ Some e → test (at_place h (n + i) e) ≡ true)
+    → list_all test (map (λ e. at_place h e.0 e.1) (enumerate_from n s)) ≡ true
 all_in_row test h n [] each = refl
 all_in_row test h n (x ∷ s) each =
     let first : n + 0 ≡ n = omega arith in
     let here : test (at_place h n x) ≡ true = subst (λ k. test (at_place h k x) ≡ true) first (each 0 x refl) in
-    let rest = all_in_row test h (n + 1) s (λ i e at. let next : n + suc i ≡ n + 1 + i = omega arith in subst (λ k. test (at_place h k e) ≡ true) next (each (suc i) e at)) in
+    let rest =
+    all_in_row test h (n + 1) s (λ i e at. let next : n + suc i ≡ n + 1 + i =
+    omega arith in subst (λ k. test (at_place h k e) ≡ true) next (each (suc i) e at)) in
     ap₂ (λ a b. a && b) here rest
 
-all_in_rows : (test : Placed → Bool) (n : ℕ) (streams : List (List Entry)) → ((h i : ℕ) (s : List Entry) (e : Entry) → slice_get streams h ≡ Some s → slice_get s i ≡ Some e → test (at_place (n + h) i e) ≡ true)
+all_in_rows : (test : Placed → Bool) (n : ℕ) (streams : List (List Entry))
+    → ((h i : ℕ) (s : List Entry) (e : Entry) → slice_get streams h ≡ Some s → slice_get s i ≡ Some e → test (at_place (n + h) i e) ≡ true)
     → list_all test (flat_map (λ s. map (λ e. at_place s.0 e.0 e.1) (enumerate_from 0 s.1)) (enumerate_from n streams)) ≡ true
 all_in_rows test n [] each = refl
 all_in_rows test n (s ∷ streams) each =
     let first : n + 0 ≡ n = omega arith in
-    let here = all_in_row test n 0 s (λ i e at. let start : 0 + i ≡ i = omega arith in subst (λ k. test (at_place n k e) ≡ true) (sym start) (subst (λ k. test (at_place k i e) ≡ true) first (each 0 i s e refl at))) in
-    let rest = all_in_rows test (n + 1) streams (λ h i t e there at. let next : n + suc h ≡ n + 1 + h = omega arith in subst (λ k. test (at_place k i e) ≡ true) next (each (suc h) i t e there at)) in
-    list_all-append test (map (λ e. at_place n e.0 e.1) (enumerate_from 0 s)) (flat_map (λ s. map (λ e. at_place s.0 e.0 e.1) (enumerate_from 0 s.1)) (enumerate_from (n + 1) streams)) ∙ ap₂ (λ a b. a && b) here rest
+    let here =
+    all_in_row test n 0 s (λ i e at. let start : 0 + i ≡ i =
+    omega arith in subst (λ k. test (at_place n k e) ≡ true) (sym start) (subst (λ k. test (at_place k i e) ≡ true) first (each 0 i s e refl at))) in
+    let rest =
+    all_in_rows test (n + 1) streams (λ h i t e there at. let next : n + suc h ≡ n + 1 + h =
+    omega arith in subst (λ k. test (at_place k i e) ≡ true) next (each (suc h) i t e there at)) in
+    list_all-append test (map (λ e. at_place n e.0 e.1) (enumerate_from 0 s))
+    (flat_map (λ s. map (λ e. at_place s.0 e.0 e.1) (enumerate_from 0 s.1)) (enumerate_from (n + 1) streams)) ∙ ap₂ (λ a b. a && b) here rest
 
 find_second : {X : Type 0} (test : X → Bool) (xs : List (ℕ × X)) → option_map (λ x. x.1) (find (λ x. test x.1) xs) ≡ find test (map (λ x. x.1) xs)
 find_second test [] = refl
@@ -54,9 +64,11 @@ seconds : {X : Type 0} (k : ℕ) (s : List X) (rest : List (ℕ × X)) → map (
 seconds k [] rest = refl
 seconds k (e ∷ s) rest = ap (λ xs. e ∷ xs) (seconds k s rest)
 
-all_seconds : (n : ℕ) (streams : List (List Entry)) → map (λ (x : ℕ × Entry). x.1) (flat_map (λ s. map (λ e. (s.0, e)) s.1) (enumerate_from n streams)) ≡ flat_map (λ s. s) streams
+all_seconds : (n : ℕ) (streams : List (List Entry)) → map (λ (x : ℕ × Entry). x.1) (flat_map (λ s. map (λ e. (s.0, e)) s.1) (enumerate_from n streams))
+    ≡ flat_map (λ s. s) streams
 all_seconds n [] = refl
-all_seconds n (s ∷ streams) = seconds n s (flat_map (λ s. map (λ e. (s.0, e)) s.1) (enumerate_from (n + 1) streams)) ∙ ap (λ xs. s ++ xs) (all_seconds (n + 1) streams)
+all_seconds n (s ∷ streams) = seconds n s (flat_map (λ s. map (λ e. (s.0, e)) s.1) (enumerate_from (n + 1) streams))
+    ∙ ap (λ xs. s ++ xs) (all_seconds (n + 1) streams)
 
 module _ (log : Log) (times_right : Keeps log o8) where
   right_at : (h i : ℕ) (e : Entry) → entry_at log h i ≡ Some e → breaks_o8 log (at_place h i e) ≡ false
@@ -86,7 +98,8 @@ module _ (log : Log) (times_right : Keeps log o8) where
       ltb-false time (time_before log k) less
 
   -- the time before the next ordinal
-  pub time_after : (h i k : ℕ) (e : Entry) → entry_at log h i ≡ Some e → ordinal_of e ≡ Some k → time_before log (k + 1) ≡ unwrap_or (time_of e) (time_before log k)
+  pub time_after : (h i k : ℕ) (e : Entry) → entry_at log h i ≡ Some e → ordinal_of e ≡ Some k
+      → time_before log (k + 1) ≡ unwrap_or (time_of e) (time_before log k)
   time_after h i k e at ordinal =
       let next : k + 1 ≡ suc k = omega arith in
       ap (time_before log) next ∙ ap (λ o. unwrap_or (option_and_then time_of o) (time_before log k)) (ordinal_there h i k e at ordinal)
@@ -151,9 +164,11 @@ word_times d word (Some v) Empty = tt
 word_times d word (Some v) (Byte b) = tt
 word_times d word (Some v) (Time t) = tt
 
-touched_at : (d : Devices) (access : Access) (input : Input) (word : Option DeviceWord) → Times d input (option_and_then (λ w. word_touched d w access.store input) word)
+touched_at : (d : Devices) (access : Access) (input : Input) (word : Option DeviceWord)
+    → Times d input (option_and_then (λ w. word_touched d w access.store input) word)
 touched_at d access input None = tt
 touched_at d access input (Some word) = word_times d word access.store input
 
-pub touched_times : (d : Devices) (access : Access) (input : Input) (x : Devices × ℕ) → touched d access input ≡ Some x → x.0.mtime ≡ unwrap_or (time_of_input input) d.mtime
+pub touched_times : (d : Devices) (access : Access) (input : Input) (x : Devices × ℕ) → touched d access input ≡ Some x
+    → x.0.mtime ≡ unwrap_or (time_of_input input) d.mtime
 touched_times d access input x is = subst (Times d input) is (touched_at d access input (device_word d.harts access.at))

@@ -1,32 +1,9 @@
--- Sums of lists, part by part.
-use Rattle.std.proofs.Common.{◌≡◌, ℕ, zero, suc, ◌+◌, ◌<◌, ◌≤◌, List, [], ◌∷◌, map, length, Some, slice_get, slice_index, unwrap_or, refl, ap, arith}
+-- The counts of a stream, together: no entry's count is more.
+use Rattle.std.proofs.Common.{◌≡◌, ℕ, zero, suc, ◌≤◌, List, [], ◌∷◌, map, Some, slice_get, ap, arith}
 use Rattle.std.proofs.lemmas.Option.{none-some, same_Some}
 use Rattle.log_entry.specs.declared.log.Entry.{Entry}
 use Rattle.log_entry.specs.Parts.{count_of}
-
-abbrev pub total : List ℕ → ℕ
-total [] = 0
-total (x ∷ xs) = x + total xs
-
-pub total_least : (xs ys : List ℕ) → length xs ≡ length ys → ((i : ℕ) → i < length xs → slice_index xs i ≤ slice_index ys i) → total xs ≤ total ys
-total_least [] ys long each = omega arith
-total_least (x ∷ xs) [] long each = absurd (omega (arith, long))
-total_least (x ∷ xs) (y ∷ ys) long each =
-    let here : x ≤ y = each 0 (omega arith) in
-    let rest = total_least xs ys (omega (arith, long)) (λ i l. each (suc i) (omega (arith, l))) in
-    omega (arith, here, rest)
-
-pub total_more : (xs ys : List ℕ) (h : ℕ) → length xs ≡ length ys → h < length xs → ((i : ℕ) → i < length xs → slice_index xs i ≤ slice_index ys i) → slice_index xs h + 1 ≤ slice_index ys h → total xs + 1 ≤ total ys
-total_more [] ys h long inside each more = absurd (omega (arith, inside))
-total_more (x ∷ xs) [] h long inside each more = absurd (omega (arith, long))
-total_more (x ∷ xs) (y ∷ ys) zero long inside each more =
-    let here : x + 1 ≤ y = more in
-    let rest = total_least xs ys (omega (arith, long)) (λ i l. each (suc i) (omega (arith, l))) in
-    omega (arith, here, rest)
-total_more (x ∷ xs) (y ∷ ys) (suc h) long inside each more =
-    let here : x ≤ y = each 0 (omega arith) in
-    let rest = total_more xs ys h (omega (arith, long)) (omega (arith, inside)) (λ i l. each (suc i) (omega (arith, l))) more in
-    omega (arith, here, rest)
+use Rattle.orders_law.proofs.Totals.{total}
 
 -- the counts of a stream's entries, together
 abbrev pub most : List Entry → ℕ
@@ -36,8 +13,3 @@ pub at_most : (s : List Entry) (i : ℕ) (e : Entry) → slice_get s i ≡ Some 
 at_most [] i e at = absurd (none-some _ at)
 at_most (x ∷ s) zero e at = let same : count_of x ≡ count_of e = ap count_of (same_Some _ _ at) in omega (arith, same)
 at_most (x ∷ s) (suc i) e at = let rest = at_most s i e at in omega (arith, rest)
-
-pub index_map : (f : List Entry → ℕ) (xs : List (List Entry)) (i : ℕ) → i < length xs → slice_index (map f xs) i ≡ f (unwrap_or (slice_get xs i) [])
-index_map f [] i l = absurd (omega (arith, l))
-index_map f (x ∷ xs) zero l = refl
-index_map f (x ∷ xs) (suc i) l = index_map f xs i (omega (arith, l))

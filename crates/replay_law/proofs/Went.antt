@@ -11,8 +11,10 @@ use Rattle.flat_machine.specs.declared.act.Act.TheVariants.{Run, Touch, Poll, Lo
 use Rattle.replay_model.specs.Flat.{Flat}
 use Rattle.order_rules.specs.Holders.{Holders, with_held}
 use Rattle.replay_model.specs.State.{Replay}
-use Rattle.replay_model.specs.Items.{Item, Ended, Move, Makes, Verdict, HasEnded, Holds, CanGo, HasDiverged, verdict_on, made, acted, past, holds, ends_reservation, told_of, goes, next_item, step}
-use Rattle.replay_model.proofs.Driving.{mapped, went}
+use Rattle.replay_model.specs.Items.{Item, Ended, Move, Makes, Verdict, HasEnded, Holds, CanGo, HasDiverged, verdict_on, made, acted, past, holds}
+use Rattle.replay_model.specs.Items.{ends_reservation, told_of, goes, next_item, step}
+use Rattle.shared_types.proofs.Lists.{mapped}
+use Rattle.replay_model.proofs.Driving.{went}
 
 -- an item that a hart can make
 abbrev pub IsMade : Item → Type 0
@@ -70,7 +72,8 @@ module _ {S V : Type 0} (flat : Flat S V) where
       → option_map (past flat h (entries.Yield count page seq left)) (option_map (holds flat page h left) (if b then acted flat s (Lose h) else Some s))
       ≡ option_map (built s h (Makes (entries.Yield count page seq left))) (flat_after s.flat (if b then Some (Lose h) else None))
   yield_is s h count page seq left true =
-      ap (option_map (past flat h (entries.Yield count page seq left))) (map_map (holds flat page h left) (λ f. record s { flat = f }) (flat.next s.flat (Lose h)))
+      ap (option_map (past flat h (entries.Yield count page seq left)))
+      (map_map (holds flat page h left) (λ f. record s { flat = f }) (flat.next s.flat (Lose h)))
       ∙ map_map (past flat h (entries.Yield count page seq left)) (λ f. holds flat page h left (record s { flat = f })) (flat.next s.flat (Lose h))
   yield_is s h count page seq left false = refl
 
@@ -79,8 +82,10 @@ module _ {S V : Type 0} (flat : Flat S V) where
   made_is s h Move real = refl
   made_is s h (Makes (entries.Gain count page seq mode waits)) real = refl
   made_is s h (Makes (entries.Yield count page seq left)) real = yield_is s h count page seq left (ends_reservation flat s h page)
-  made_is s h (Makes (entries.Poll count ord time bits)) real = map_map (past flat h (entries.Poll count ord time bits)) (λ f. record s { flat = f }) (flat.next s.flat (Poll h time))
-  made_is s h (Makes (entries.Touch count ord input)) real = map_map (past flat h (entries.Touch count ord input)) (λ f. record s { flat = f }) (flat.next s.flat (Touch h input))
+  made_is s h (Makes (entries.Poll count ord time bits)) real =
+      map_map (past flat h (entries.Poll count ord time bits)) (λ f. record s { flat = f }) (flat.next s.flat (Poll h time))
+  made_is s h (Makes (entries.Touch count ord input)) real =
+      map_map (past flat h (entries.Touch count ord input)) (λ f. record s { flat = f }) (flat.next s.flat (Touch h input))
   made_is s h (Makes (entries.End count)) real = absurd real
 
   is_made : (s t : Replay S) (h : ℕ) (item : Item) → made flat s h item ≡ Some t → IsMade item
@@ -120,9 +125,11 @@ module _ {S V : Type 0} (flat : Flat S V) where
   step_went log s t h w is =
       let item = next_item flat log s h in
       let v = verdict_on flat s h (next_item flat log s h) in
-      let did : made flat s h (next_item flat log s h) ≡ Some t = went flat s t h (next_item flat log s h) (verdict_on flat s h (next_item flat log s h)) w is in
+      let did : made flat s h (next_item flat log s h) ≡ Some t =
+      went flat s t h (next_item flat log s h) (verdict_on flat s h (next_item flat log s h)) w is in
       let real : IsMade (next_item flat log s h) = is_made s t h (next_item flat log s h) did in
-      let f = mapped (built s h (next_item flat log s h)) (flat_after s.flat (act_of s h (next_item flat log s h))) t (sym (made_is s h (next_item flat log s h) real) ∙ did) in
+      let f = mapped (built s h (next_item flat log s h)) (flat_after s.flat (act_of s h (next_item flat log s h))) t
+      (sym (made_is s h (next_item flat log s h) real) ∙ did) in
       let same : f.0 ≡ t.flat = ap (λ (x : Replay S). x.flat) f.2 in
       record {
         item = item;
@@ -134,7 +141,8 @@ module _ {S V : Type 0} (flat : Flat S V) where
         told_is = told_by s t h item v w is;
       }
 
-  pub step_goes : (log : Log) (s : Replay S) (h : ℕ) (item : Item) (f : S) → next_item flat log s h ≡ item → verdict_on flat s h item ≡ CanGo → IsMade item → flat_after s.flat (act_of s h item) ≡ Some f
+  pub step_goes : (log : Log) (s : Replay S) (h : ℕ) (item : Item) (f : S) → next_item flat log s h ≡ item → verdict_on flat s h item ≡ CanGo → IsMade item
+      → flat_after s.flat (act_of s h item) ≡ Some f
       → step flat log h s ≡ Some (built s h item f, told_of flat s h item (built s h item f))
   step_goes log s h item f next go real is =
       ap (λ i. goes flat s h i (verdict_on flat s h i)) next ∙ ap (goes flat s h item) go

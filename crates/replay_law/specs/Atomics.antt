@@ -7,6 +7,7 @@ use Rattle.rv_hart.specs.declared.effect.Effect.TheVariants.{Reserves, Commits, 
 use Rattle.rv_hart.specs.declared.effect.Wrote.{Wrote}
 use Rattle.rv_hart.specs.declared.effect.Wrote.TheVariants as wrote
 use Rattle.log_entry.specs.declared.log.Log.{Log}
+use Rattle.log_entry.specs.Parts.{unit_of}
 use Rattle.order_rules.specs.Places.{is_number}
 use Rattle.flat_machine.specs.State.{FlatState}
 use Rattle.flat_machine.specs.Moves.{next_move, loaded_for}
@@ -40,7 +41,8 @@ on_word word h count effect loaded =
 -- and by its next move
 abbrev pub next_atomic : ℕ → FlatState → ℕ → List Atomic
 next_atomic word s h =
-    option_map_or (λ x. on_word word h (slice_index s.counts h) (next_move x s.memory) (loaded_for s.memory (need_of (next_move x s.memory)))) (slice_get s.harts h) []
+    option_map_or (λ x. on_word word h (slice_index s.counts h) (next_move x s.memory) (loaded_for s.memory (need_of (next_move x s.memory))))
+    (slice_get s.harts h) []
 
 -- and by an item
 abbrev pub item_atomics : ℕ → FlatState → ℕ → Item → List Atomic
@@ -51,4 +53,5 @@ item_atomics word s h item = []
 abbrev pub atomics_along : ℕ → Log → Replay FlatState → List ℕ → List Atomic
 atomics_along word log s [] = []
 atomics_along word log s (h ∷ order) =
-    option_map_or (λ m. item_atomics word s.flat h (next_item board log s h) ++ atomics_along word log m.0 order) (step board log h s) []
+    option_map_or (λ m. item_atomics word s.flat h (next_item (board (unit_of log)) log s h) ++ atomics_along word log m.0 order)
+    (step (board (unit_of log)) log h s) []

@@ -2,7 +2,7 @@ use Rattle.std.proofs.Common.{rules, ◌≡◌, ◌∙◌, ◌/◌, sym, ap, len
 use Rattle.std.proofs.lemmas.List.{length-replicate}
 use Rattle.std.proofs.lemmas.List.FromFn.{length-map-range_with_len}
 use Rattle.guest_pages.specs.Pages.{Pages, paged, page_of}
-use Rattle.hart_run.specs.Run.{Run, run_at_start}
+use Rattle.run_model.specs.Run.{Run, run_at_start}
 use Rattle.leg_speed.proofs.start.Goals as goal
 
 pub loop-page-init : goal.loop-page-init

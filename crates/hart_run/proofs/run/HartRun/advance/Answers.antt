@@ -17,16 +17,21 @@ loop-self-init c = record {
 pub loop-self-preserved : goal.loop-self-preserved
 loop-self-preserved c =
     let free : ahead_of c.burst.new.self ≡ ahead.Free = sym c.in-Free.ensures.ahead in
-    let one : IsOneRun c.loop-self.self = subst IsOneRun c.self.view_is c.self.invariant in
-    let again : IsOneRun c.burst.new.self = subst IsOneRun c.self-in-loop-self.view_is c.self-in-loop-self.invariant in
+    let one : IsOneRun c.loop-self.self = subst IsOneRun c.self.view_is c.self.invariant.one in
+    let again : IsOneRun c.burst.new.self = subst IsOneRun c.self-in-loop-self.view_is c.self-in-loop-self.invariant.one in
     let count : c.self-in-loop-self.inside.count ≡ c.burst.new.self.count = ap (λ (z : Run). z.count) c.self-in-loop-self.view_is in
     let more = ap (λ (z : Run). z.count) c.in-Free.ensures.made in
     let most = c.burst.ensures.within in
     let apart : c.burst.new.self.count ≢ c.args.until = (λ e. c.if-self-until.false (count ∙ e)) in
     record {
       within = omega (arith, more, most, apart);
-      kept = subst (KeepsPages c.args.self.now) (sym c.in-Free.ensures.made) (keeps_further c.args.self.now c.burst.new.self (keeps_gone c.args.self.now c.loop-self.self c.burst.new.self c.burst.ensures.gone c.loop-self.invariant.kept) free);
-      led = λ h s crew a. subst (λ z. HasLed z h s) (sym c.in-Free.ensures.made) (led_further c.burst.new.self h s (led_gone c.loop-self.self c.burst.new.self h s one c.burst.ensures.gone (c.loop-self.invariant.led h s crew a)) again free);
+      kept = subst (KeepsPages c.args.self.now) (sym c.in-Free.ensures.made)
+          (keeps_further c.args.self.now c.burst.new.self (keeps_gone c.args.self.now c.loop-self.self c.burst.new.self c.burst.ensures.gone
+          c.loop-self.invariant.kept) free);
+      led = λ h s crew a. subst (λ z. HasLed c.args.self.now.frames.unit z h s) (sym c.in-Free.ensures.made)
+          (led_further c.args.self.now.frames.unit c.burst.new.self h s
+          (led_gone c.args.self.now.frames.unit c.loop-self.self c.burst.new.self h s one c.burst.ensures.gone (c.loop-self.invariant.led h s crew a))
+          again free);
     }
 
 pub loop-self-smaller : goal.loop-self-smaller
@@ -42,38 +47,48 @@ returns-then-self-until-clause-kept c = keeps_gone c.args.self.now c.loop-self.s
 
 pub returns-then-self-until-clause-leg : goal.returns-then-self-until-clause-leg
 returns-then-self-until-clause-leg c h s crew a =
-    let one : IsOneRun c.loop-self.self = subst IsOneRun c.self.view_is c.self.invariant in
+    let one : IsOneRun c.loop-self.self = subst IsOneRun c.self.view_is c.self.invariant.one in
     let count : c.self-in-loop-self.inside.count ≡ c.burst.new.self.count = ap (λ (z : Run). z.count) c.self-in-loop-self.view_is in
-    makes_leg c.burst.new.self h c.args.until s pause.Due (led_gone c.loop-self.self c.burst.new.self h s one c.burst.ensures.gone (c.loop-self.invariant.led h s crew a)) c.burst.ensures.within (sym count ∙ c.if-self-until.true)
+    makes_leg c.args.self.now.frames.unit c.burst.new.self h c.args.until s pause.Due
+    (led_gone c.args.self.now.frames.unit c.loop-self.self c.burst.new.self h s one c.burst.ensures.gone (c.loop-self.invariant.led h s crew a))
+    c.burst.ensures.within (sym count ∙ c.if-self-until.true)
 
 pub returns-in-Wants-clause-kept : goal.returns-in-Wants-clause-kept
-returns-in-Wants-clause-kept c = subst (KeepsPages c.args.self.now) (sym c.in-Wants.ensures.made) (keeps_gone c.args.self.now c.loop-self.self c.burst.new.self c.burst.ensures.gone c.loop-self.invariant.kept)
+returns-in-Wants-clause-kept c =
+    subst (KeepsPages c.args.self.now) (sym c.in-Wants.ensures.made)
+    (keeps_gone c.args.self.now c.loop-self.self c.burst.new.self c.burst.ensures.gone c.loop-self.invariant.kept)
 
 pub returns-in-Wants-clause-leg : goal.returns-in-Wants-clause-leg
 returns-in-Wants-clause-leg c h s crew a =
-    let one : IsOneRun c.loop-self.self = subst IsOneRun c.self.view_is c.self.invariant in
+    let one : IsOneRun c.loop-self.self = subst IsOneRun c.self.view_is c.self.invariant.one in
     let count : c.self-in-loop-self.inside.count ≡ c.burst.new.self.count = ap (λ (z : Run). z.count) c.self-in-loop-self.view_is in
     let same : c.step.new.self.count ≡ c.burst.new.self.count = ap (λ (z : Run). z.count) c.in-Wants.ensures.made in
     let most = c.burst.ensures.within in
     let apart : c.burst.new.self.count ≢ c.args.until = (λ e. c.if-self-until.false (count ∙ e)) in
     let below : c.step.new.self.count < c.args.until = omega (arith, same, most, apart) in
-    makes_leg c.step.new.self h c.args.until s (pause.Wants c.in-Wants.page c.in-Wants.mode)
-    (subst (λ z. HasLed z h s) (sym c.in-Wants.ensures.made) (led_gone c.loop-self.self c.burst.new.self h s one c.burst.ensures.gone (c.loop-self.invariant.led h s crew a))) (omega (arith, below))
+    makes_leg c.args.self.now.frames.unit c.step.new.self h c.args.until s (pause.Wants c.in-Wants.page c.in-Wants.mode)
+    (subst (λ z. HasLed c.args.self.now.frames.unit z h s) (sym c.in-Wants.ensures.made)
+    (led_gone c.args.self.now.frames.unit c.loop-self.self c.burst.new.self h s one c.burst.ensures.gone (c.loop-self.invariant.led h s crew a)))
+    (omega (arith, below))
     (below, ap ahead_of c.in-Wants.ensures.made ∙ sym c.in-Wants.ensures.ahead)
 
 pub returns-in-AtDevice-clause-kept : goal.returns-in-AtDevice-clause-kept
-returns-in-AtDevice-clause-kept c = subst (KeepsPages c.args.self.now) (sym c.in-AtDevice.ensures.made) (keeps_gone c.args.self.now c.loop-self.self c.burst.new.self c.burst.ensures.gone c.loop-self.invariant.kept)
+returns-in-AtDevice-clause-kept c =
+    subst (KeepsPages c.args.self.now) (sym c.in-AtDevice.ensures.made)
+    (keeps_gone c.args.self.now c.loop-self.self c.burst.new.self c.burst.ensures.gone c.loop-self.invariant.kept)
 
 pub returns-in-AtDevice-clause-leg : goal.returns-in-AtDevice-clause-leg
 returns-in-AtDevice-clause-leg c h s crew a =
-    let one : IsOneRun c.loop-self.self = subst IsOneRun c.self.view_is c.self.invariant in
+    let one : IsOneRun c.loop-self.self = subst IsOneRun c.self.view_is c.self.invariant.one in
     let count : c.self-in-loop-self.inside.count ≡ c.burst.new.self.count = ap (λ (z : Run). z.count) c.self-in-loop-self.view_is in
     let same : c.step.new.self.count ≡ c.burst.new.self.count = ap (λ (z : Run). z.count) c.in-AtDevice.ensures.made in
     let most = c.burst.ensures.within in
     let apart : c.burst.new.self.count ≢ c.args.until = (λ e. c.if-self-until.false (count ∙ e)) in
     let below : c.step.new.self.count < c.args.until = omega (arith, same, most, apart) in
-    makes_leg c.step.new.self h c.args.until s (pause.AtDevice c.in-AtDevice.access)
-    (subst (λ z. HasLed z h s) (sym c.in-AtDevice.ensures.made) (led_gone c.loop-self.self c.burst.new.self h s one c.burst.ensures.gone (c.loop-self.invariant.led h s crew a))) (omega (arith, below))
+    makes_leg c.args.self.now.frames.unit c.step.new.self h c.args.until s (pause.AtDevice c.in-AtDevice.access)
+    (subst (λ z. HasLed c.args.self.now.frames.unit z h s) (sym c.in-AtDevice.ensures.made)
+    (led_gone c.args.self.now.frames.unit c.loop-self.self c.burst.new.self h s one c.burst.ensures.gone (c.loop-self.invariant.led h s crew a)))
+    (omega (arith, below))
     (below, ap ahead_of c.in-AtDevice.ensures.made ∙ sym c.in-AtDevice.ensures.ahead)
 
 pub returns-clause-leg : goal.returns-clause-leg
@@ -81,4 +96,5 @@ returns-clause-leg c h s crew a =
     let count = ap (λ (z : Run). z.count) c.self.view_is in
     let test = c.loop-self-test.false in
     let most = c.loop-self.invariant.within in
-    makes_leg c.loop-self.self h c.args.until s pause.Due (c.loop-self.invariant.led h s crew a) c.loop-self.invariant.within (omega (arith, count, test, most))
+    makes_leg c.args.self.now.frames.unit c.loop-self.self h c.args.until s pause.Due (c.loop-self.invariant.led h s crew a) c.loop-self.invariant.within
+    (omega (arith, count, test, most))

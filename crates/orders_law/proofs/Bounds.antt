@@ -4,7 +4,7 @@ use Rattle.std.proofs.lemmas.Bool.{ltb-false, le-ltb}
 use Rattle.std.proofs.lemmas.Option.{none-some}
 use Rattle.orders_law.specs.Orders.{below, Leads, IsFull, IsLeast, Lasts, Commutes}
 use Rattle.orders_law.proofs.Existence.{least_is_there}
-use Rattle.hart_run.proofs.Lists.{find_same}
+use Rattle.shared_types.proofs.Lists.{find_same}
 
 none_beyond : {X : Type 0} (b : Bool) (o : Option X) → b ≡ false → cond b o None ≡ None
 none_beyond b o f = ap (λ c. cond c o None) f
