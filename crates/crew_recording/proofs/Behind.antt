@@ -21,7 +21,7 @@ use Rattle.order_rules.specs.Rules as rules
 use Rattle.order_rules.specs.Rules.{breaks_o6, breaks_o7, waits_due, waits_after, same_wait}
 use Rattle.order_rules.specs.Orderly.{Keeps, o5, o6, o7}
 use Rattle.order_rules.proofs.Numbers.{numbers_name}
-use Rattle.order_rules.proofs.Takings.{numbers_by, met_by, taken_is}
+use Rattle.order_rules.proofs.Takings.{numbers_by, met_by, taken_is, number_met}
 use Rattle.replay_model.specs.Flat.{Flat}
 use Rattle.order_rules.specs.Holders.{with_held}
 use Rattle.replay_model.specs.State.{Replay}
@@ -29,7 +29,6 @@ use Rattle.replay_model.specs.Items.{Item, Ended, Move, Makes}
 use Rattle.order_rules.specs.Laws.{Follow}
 use Rattle.order_rules.proofs.Follow.{still_follow}
 use Rattle.flat_machine.specs.declared.act.Act.TheVariants.{Run}
-use Rattle.crew_recording.proofs.Tests.{number_met}
 use Rattle.crew_recording.specs.Recording.{Recording, IsSteady, IsRecorded, Records, stream_in}
 use Rattle.crew_recording.specs.Allowed.{IsTimed, Allowed, AreAllowed, log_so_far}
 use Rattle.crew_recording.proofs.Streams.{stream_here, stream_there}

@@ -15,14 +15,14 @@ use Rattle.log_entry.specs.declared.log.Entry.TheVariants as entries
 use Rattle.log_entry.specs.Parts.{is_touch, page_number, ordinal_of, time_of, time_of_input}
 use Rattle.order_rules.specs.Places.{number_on}
 use Rattle.order_rules.specs.Cursor.{Cursor, guard_is_met, taken}
-use Rattle.order_rules.proofs.Takings.{numbers_by, ordinal_by, met_by, guard_is, taken_is, one_kind}
+use Rattle.order_rules.proofs.Takings.{numbers_by, ordinal_by, met_by, guard_is, taken_is, one_kind, number_met}
 use Rattle.flat_machine.specs.declared.act.Act.{Act}
 use Rattle.flat_machine.specs.declared.act.Act.TheVariants.{Run, Touch, Poll, Lose}
 use Rattle.replay_model.specs.Flat.{Flat}
 use Rattle.order_rules.specs.Holders.{Holders, with_held}
 use Rattle.replay_model.specs.State.{Replay}
 use Rattle.replay_model.specs.Items.{Item, Ended, Move, Makes, acted, effect, past, holds, ends_reservation}
-use Rattle.crew_recording.proofs.Tests.{met, number_met}
+use Rattle.crew_recording.proofs.Tests.{met}
 use Rattle.crew_recording.specs.Recording.{Recording, IsSteady, IsRecorded, Stands, stream_in}
 use Rattle.crew_recording.specs.Allowed.{IsTimed, Allowed}
 use Rattle.crew_recording.proofs.Streams.{stream_here, stream_there}

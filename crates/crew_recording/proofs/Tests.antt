@@ -1,8 +1,6 @@
 -- What tests tell that were met, or that nothing met.
-use Rattle.std.proofs.Common.{◌≡◌, ℕ, Bool, true, false, Option, Some, None, refl, sym, ap, if◌then◌else◌, true≢false}
-use Rattle.std.proofs.lemmas.Bool.{eqb-true}
+use Rattle.std.proofs.Common.{◌≡◌, Bool, true, false, Option, Some, None, refl, sym, ap, if◌then◌else◌, true≢false}
 use Rattle.log_entry.specs.Parts.{is_some_and}
-use Rattle.order_rules.specs.Places.{is_number}
 use Rattle.replay_model.specs.Items.{Verdict, CanGo, Holds}
 
 abbrev is_go : Verdict → Bool
@@ -17,8 +15,3 @@ met false v e = absurd (true≢false (sym (ap is_go e)))
 pub some_and_false : {X : Type 0} (o : Option X) (test : X → Bool) → ((x : X) → o ≡ Some x → test x ≡ false) → is_some_and o test ≡ false
 some_and_false None test f = refl
 some_and_false (Some x) test f = f x refl
-
--- a number that passes for this one is there, and is it
-pub number_met : (k : ℕ) (o : Option ℕ) → is_number k o ≡ true → o ≡ Some k
-number_met k None e = absurd (true≢false (sym e))
-number_met k (Some m) e = ap Some (eqb-true m k e)
