@@ -20,7 +20,7 @@ use Rattle.log_entry.specs.declared.log.Entry.TheVariants as entries
 use Rattle.log_entry.specs.Parts.{time_of}
 use Rattle.replay_model.specs.Inputs.{console_input, times_from}
 use Rattle.recorder.specs.Running.{Running, polled_at, touched_by}
-use Rattle.recorder.specs.Outside.{Outside, time_after, Gave, Took, Timed, Asks, AsksClock, Accessed, is_time_load}
+use Rattle.recorder.specs.Sources.{Sources, time_after, Gave, Took, Timed, Asks, AsksClock, Accessed, is_time_load}
 
 times_append : (time : ℕ) (xs ys : List ℕ) → times_from time (xs ++ ys) ≡ times_from time xs ++ times_from (time_after time xs) ys
 times_append time [] ys = refl
@@ -62,38 +62,38 @@ timed_on a b c r s t one two = (
 )
 
 -- one after another
-pub asks_on : (o p q : Outside) (r s t : Running) → Asks o p r s → Asks p q s t → Asks o q r t
+pub asks_on : (o p q : Sources) (r s t : Running) → Asks o p r s → Asks p q s t → Asks o q r t
 asks_on o p q r s t one two = record {
   tells_answers = λ told. one.tells_answers (two.tells_answers told);
   tells_taken = λ told. one.tells_taken (two.tells_taken told);
   tells_times = λ told. one.tells_times (two.tells_times told);
-  gave = λ told. gave_on o.answers p.answers q.answers r s t (one.gave (two.tells_answers told)) (two.gave told);
-  took = λ told. took_on o.taken p.taken q.taken r s t (one.took (two.tells_taken told)) (two.took told);
-  timed = λ told. timed_on o.times p.times q.times r s t (one.timed (two.tells_times told)) (two.timed told);
+  gave = λ told. gave_on o.console.answers p.console.answers q.console.answers r s t (one.gave (two.tells_answers told)) (two.gave told);
+  took = λ told. took_on o.console.taken p.console.taken q.console.taken r s t (one.took (two.tells_taken told)) (two.took told);
+  timed = λ told. timed_on o.clock.answers p.clock.answers q.clock.answers r s t (one.timed (two.tells_times told)) (two.timed told);
 }
 
 same : {X : Type 0} (xs : List X) → xs ≡ xs ++ []
 same xs = sym (append-nil xs)
 
 -- nothing was asked, and no entry has an input or a time
-pub asks_nothing : (o : Outside) (r s : Running) (made : List Entry) → s.stream ≡ r.stream ++ made → [] ≡ filter_map console_input made → [] ≡ filter_map time_of made → s.devices ≡ r.devices → Asks o o r s
+pub asks_nothing : (o : Sources) (r s : Running) (made : List Entry) → s.stream ≡ r.stream ++ made → [] ≡ filter_map console_input made → [] ≡ filter_map time_of made → s.devices ≡ r.devices → Asks o o r s
 asks_nothing o r s made stream console clock devices = record {
   tells_answers = λ told. told;
   tells_taken = λ told. told;
   tells_times = λ told. told;
-  gave = λ told. ([], made, same o.answers, stream, console);
-  took = λ told. ([], same o.taken, ap (λ d. d.sent) devices ∙ same r.devices.sent);
-  timed = λ told. ([], made, same o.times, stream, clock, ap (λ d. d.mtime) devices);
+  gave = λ told. ([], made, same o.console.answers, stream, console);
+  took = λ told. ([], same o.console.taken, ap (λ d. d.sent) devices ∙ same r.devices.sent);
+  timed = λ told. ([], made, same o.clock.answers, stream, clock, ap (λ d. d.mtime) devices);
 }
 
 -- a Poll
-pub poll_asks : (o p : Outside) (r : Running) (answer : ℕ) → AsksClock o p answer → Asks o p r (polled_at r (max r.devices.mtime answer))
+pub poll_asks : (o p : Sources) (r : Running) (answer : ℕ) → AsksClock o p answer → Asks o p r (polled_at r (max r.devices.mtime answer))
 poll_asks o p r answer asks = record {
-  tells_answers = λ told. subst (λ x. IsTrue x.tells_answers) asks.console told;
-  tells_taken = λ told. subst (λ x. IsTrue x.tells_taken) asks.console told;
+  tells_answers = λ told. subst (λ c. IsTrue c.tells_answers) asks.console told;
+  tells_taken = λ told. subst (λ c. IsTrue c.tells_taken) asks.console told;
   tells_times = asks.tells;
-  gave = λ told. ([], _ ∷ [], ap (λ x. x.answers) asks.console ∙ same o.answers, refl, refl);
-  took = λ told. ([], ap (λ x. x.taken) asks.console ∙ same o.taken, same r.devices.sent);
+  gave = λ told. ([], _ ∷ [], ap (λ c. c.answers) asks.console ∙ same o.console.answers, refl, refl);
+  took = λ told. ([], ap (λ c. c.taken) asks.console ∙ same o.console.taken, same r.devices.sent);
   timed = λ told. (answer ∷ [], _ ∷ [], asks.times told, refl, ap (λ x. x ∷ []) (max_comm answer r.devices.mtime), max_comm r.devices.mtime answer);
 }
 
@@ -196,7 +196,7 @@ left d e l (word.CompareHigh h) None now a is = untouched d e _ l (word.CompareH
 left d e l (word.CompareHigh h) (Some v) now a is = changed d (stored d (word.CompareHigh h) v) e l (word.CompareHigh h) (Some v) now (same d.sent) refl is
 
 -- a Touch
-pub touch_asks : (o p : Outside) (r : Running) (access : Access) (input : Input) (d : Devices × ℕ) (spare : ℕ)
+pub touch_asks : (o p : Sources) (r : Running) (access : Access) (input : Input) (d : Devices × ℕ) (spare : ℕ)
     → touched r.devices access input ≡ Some d → Accessed o p r.devices access input → Asks o p r (touched_by r input d spare)
 touch_asks o p r access input d spare touches made =
     let w = made.word in

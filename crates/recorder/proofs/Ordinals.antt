@@ -12,7 +12,7 @@ use Rattle.log_entry.specs.declared.log.Log.{Log}
 use Rattle.log_entry.specs.Parts.{ordinal_of, time_of}
 use Rattle.orders_law.specs.Orders.{below}
 use Rattle.order_rules.specs.Places.{is_number}
-use Rattle.solo_recording.proofs.Prefix.{count_cons, count_one, count_none}
+use Rattle.crew_recording.proofs.Prefix.{count_cons, count_one, count_none}
 use Rattle.replay_model.specs.Inputs.{by_ordinal, console_input}
 
 range_more : (a n : ℕ) → range_with_len a (suc n) ≡ range_with_len a n ++ (a + n) ∷ []

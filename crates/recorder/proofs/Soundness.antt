@@ -4,7 +4,7 @@ use Rattle.std.specs.List.{list_all, filter_map}
 use Rattle.std.proofs.lemmas.List.{append-nil}
 use Rattle.std.proofs.lemmas.List.Elements.{filter_map-append}
 use Rattle.orders_law.specs.Orders.{below}
-use Rattle.std.proofs.lemmas.Bool.{eq-eqb}
+use Rattle.std.proofs.lemmas.Bool.{eq-eqb, lt-ltb}
 use Rattle.std.proofs.lemmas.Bool.Decides.{leb_tells}
 use Rattle.std.proofs.lemmas.List.{length_push}
 use Rattle.std.proofs.lemmas.List.Sums.{sum_by-append}
@@ -18,16 +18,16 @@ use Rattle.log_entry.specs.declared.log.Entry.TheVariants as entries
 use Rattle.log_entry.specs.declared.waits.WaitFor.{WaitFor}
 use Rattle.log_entry.specs.Parts.{count_of, is_poll, ordinal_of}
 use Rattle.log_entry.specs.Range.{is_entry, is_wait}
-use Rattle.log_entry.specs.Size.{size_of}
+use Rattle.log_entry.specs.Size.{size_in}
 use Rattle.log_entry.specs.Waits.{WaitList}
-use Rattle.solo_recording.proofs.Kept.{length_set}
-use Rattle.solo_recording.proofs.Prefix.{at_snoc, one_passes, last_passes}
-use Rattle.recorder.specs.LoneRun.{LoneRun}
-use Rattle.recorder.specs.Running.{Running, IsSound, size_with, gained, polled_at, touched_by}
+use Rattle.std.proofs.lemmas.List.{length-set}
+use Rattle.shared_types.proofs.Lists.{at_one_more, one_passes, last_passes}
+use Rattle.recorder.specs.LoneRun.{LoneRun, unit}
+use Rattle.recorder.specs.Running.{Running, IsRecorder, gain_size, poll_size, touch_size, size_with, gained, polled_at, touched_by}
 
-grown : (stream : List Entry) (e : Entry) (size n : ℕ) → size ≡ size_with stream → size_of e ≡ n → size + n ≡ size_with (stream ++ e ∷ [])
+grown : (stream : List Entry) (e : Entry) (size n : ℕ) → size ≡ size_with stream → size_in unit 1 e ≡ n → size + n ≡ size_with (stream ++ e ∷ [])
 grown stream e size n is one =
-    let s = sum_by-append size_of stream (e ∷ []) in
+    let s = sum_by-append (size_in unit 1) stream (e ∷ []) in
     omega (arith, s, is, one)
 
 all_in : (pages : ℕ) (stream : List Entry) (e : Entry) → list_all (is_entry 1 pages) stream ≡ true → is_entry 1 pages e ≡ true → list_all (is_entry 1 pages) (stream ++ e ∷ []) ≡ true
@@ -38,7 +38,7 @@ below_still : (stream : List Entry) (e : Entry) (bound more : ℕ) → ((i : ℕ
 below_still stream e bound more below later here i x at = ⊎_elim
     (λ l. let b = below i x l.1 in omega (arith, b, later))
     (λ r. subst (λ y. count_of y < more) r.1 here)
-    (at_snoc stream e x i at)
+    (at_one_more stream e x i at)
 
 set_bounded : (xs : List ℕ) (i v b : ℕ) → ((p : ℕ) → slice_index xs p ≤ b) → v ≤ b → (p : ℕ) → slice_index (slice_set xs i v) p ≤ b
 set_bounded [] i v b each new p = each p
@@ -47,27 +47,24 @@ set_bounded (x ∷ xs) zero v b each new (suc p) = each (suc p)
 set_bounded (x ∷ xs) (suc i) v b each new zero = each 0
 set_bounded (x ∷ xs) (suc i) v b each new (suc p) = set_bounded xs i v b (λ q. each (suc q)) new p
 
-below_test : (a b : ℕ) → a < b → nat_lt a b ≡ true
-below_test a b l = ⊎_elim (λ t. t.0) (λ f. let g = f.1 in absurd (omega (arith, g, l))) (leb_tells (suc a) b)
-
 below_more : (n : ℕ) → below n ++ n ∷ [] ≡ below (n + 1)
 below_more n = ap below (next n) where
   next : (n : ℕ) → suc n ≡ n + 1
   next n = omega arith
 
-pub gain_sound : (r : Running) (page : ℕ) (mode : Mode) (waits : WaitList) → IsSound r → r.run.count < r.next_poll → r.size + 17 ≤ r.log_limit → page < r.run.pages → waits.items ≡ [] → IsSound (gained r page mode waits)
+pub gain_sound : (r : Running) (page : ℕ) (mode : Mode) (waits : WaitList) → IsRecorder r → r.run.count < r.next_poll → r.size + gain_size ≤ r.log_limit → page < r.run.pages → waits.items ≡ [] → IsRecorder (gained r page mode waits)
 gain_sound r page mode waits sound early room inside none =
     let e = entries.Gain r.run.count page (slice_index r.numbers page) mode waits in
     let longer = length_push r.stream e in
     let ord = sound.ordinal in
     record {
       device_harts = sound.device_harts;
-      numbers_size = length_set r.numbers page (slice_index r.numbers page + 1) ∙ sound.numbers_size;
+      numbers_size = length-set r.numbers page (slice_index r.numbers page + 1) ∙ sound.numbers_size;
       most_bytes = sound.most_bytes;
       most_moves = sound.most_moves;
-      size = grown r.stream e r.size 17 sound.size (ap (λ (ws : List WaitFor). 17 + 9 * length ws) none);
+      size = grown r.stream e r.size gain_size sound.size (ap (λ (ws : List WaitFor). 17 + 9 * length ws) none);
       within = room;
-      held = length_set r.run.held page (Some mode) ∙ sound.held;
+      held = length-set r.run.held page (Some mode) ∙ sound.held;
       count = sound.count;
       ordinal = omega (arith, longer, ord);
       ordinals = filter_map-append ordinal_of r.stream (e ∷ []) ∙ append-nil (filter_map ordinal_of r.stream) ∙ sound.ordinals;
@@ -79,7 +76,7 @@ gain_sound r page mode waits sound early room inside none =
       polls = λ n due less. one_passes (λ x. is_poll x && (count_of x == n)) r.stream (e ∷ []) (sound.polls n due less);
       below = below_still r.stream e r.next_poll r.next_poll sound.below (omega arith) early;
       entries = all_in r.run.pages r.stream e sound.entries
-          (ap₂ (λ b (ws : List WaitFor). b && nat_le (length ws) 7 && list_all (is_wait 1) ws) (below_test page r.run.pages inside) none);
+          (ap₂ (λ b (ws : List WaitFor). b && nat_le (length ws) 7 && list_all (is_wait 1) ws) (lt-ltb page r.run.pages inside) none);
     }
 
 lines_below : (a b : Bool) → nat_lt (bit a 0 + bit b 1) 4 ≡ true
@@ -91,7 +88,7 @@ lines_below false false = refl
 abbrev polls_at : ℕ → Entry → Bool
 polls_at n x = is_poll x && (count_of x == n)
 
-pub poll_sound : (r : Running) (time : ℕ) → IsSound r → r.run.count ≡ r.next_poll → r.run.count < r.limit → r.size + 22 ≤ r.log_limit → IsSound (polled_at r time)
+pub poll_sound : (r : Running) (time : ℕ) → IsRecorder r → r.run.count ≡ r.next_poll → r.run.count < r.limit → r.size + poll_size ≤ r.log_limit → IsRecorder (polled_at r time)
 poll_sound r time sound due less room =
     let bits = lines_at r.devices 0 time in
     let e = entries.Poll r.run.count r.ordinal time bits in
@@ -104,7 +101,7 @@ poll_sound r time sound due less room =
       numbers_size = sound.numbers_size;
       most_bytes = sound.most_bytes;
       most_moves = sound.most_moves;
-      size = grown r.stream e r.size 22 sound.size refl;
+      size = grown r.stream e r.size poll_size sound.size refl;
       within = room;
       held = sound.held;
       count = sound.count;
@@ -118,11 +115,11 @@ poll_sound r time sound due less room =
           (λ t. let l = t.1 in one_passes (polls_at n) r.stream (e ∷ []) (sound.polls n at_multiple l))
           (λ f. let g = f.1 in last_passes (polls_at n) r.stream e (eq-eqb r.run.count n (omega (arith, due, multiple, at_multiple, less_than, g))))
           (leb_tells (suc n) r.next_poll);
-      below = below_still r.stream e r.next_poll (r.next_poll + 4096) sound.below (omega arith) (omega (arith, due));
+      below = below_still r.stream e r.next_poll (r.next_poll + poll_distance) sound.below (omega arith) (omega (arith, due));
       entries = all_in r.run.pages r.stream e sound.entries (lines_below (msip_of r.devices 0) (nat_le (mtimecmp_of r.devices 0) time));
     }
 
-pub touch_sound : (r : Running) (input : Input) (d : Devices × ℕ) (spare : ℕ) → IsSound r → r.run.count < r.next_poll → r.run.count < r.limit → r.size + 22 ≤ r.log_limit → d.0.harts ≡ r.devices.harts → IsSound (touched_by r input d spare)
+pub touch_sound : (r : Running) (input : Input) (d : Devices × ℕ) (spare : ℕ) → IsRecorder r → r.run.count < r.next_poll → r.run.count < r.limit → r.size + touch_size ≤ r.log_limit → d.0.harts ≡ r.devices.harts → IsRecorder (touched_by r input d spare)
 touch_sound r input d spare sound early less room harts =
     let e = entries.Touch r.run.count r.ordinal input in
     let longer = length_push r.stream e in
@@ -132,7 +129,7 @@ touch_sound r input d spare sound early less room harts =
       numbers_size = sound.numbers_size;
       most_bytes = sound.most_bytes;
       most_moves = sound.most_moves;
-      size = grown r.stream e r.size 22 sound.size refl;
+      size = grown r.stream e r.size touch_size sound.size refl;
       within = room;
       held = sound.held;
       count = omega (arith, less);
@@ -148,7 +145,7 @@ touch_sound r input d spare sound early less room harts =
     }
 
 -- moves up to the limit and the next Poll
-pub leg_sound : (r : Running) (s : LoneRun) → IsSound r → s.count ≤ r.limit → s.count ≤ r.next_poll → s.pages ≡ r.run.pages → s.held ≡ r.run.held → IsSound (record r { run = s })
+pub leg_sound : (r : Running) (s : LoneRun) → IsRecorder r → s.count ≤ r.limit → s.count ≤ r.next_poll → s.pages ≡ r.run.pages → s.held ≡ r.run.held → IsRecorder (record r { run = s })
 leg_sound r s sound less early pages held = record {
   device_harts = sound.device_harts;
   numbers_size = sound.numbers_size ∙ sym pages;
@@ -182,7 +179,7 @@ few [] = omega arith
 few (e ∷ stream) = let s = sum_by-append size_of (e ∷ []) stream in let one = sized e in let rest = few stream in omega (arith, s, one, rest)
 
 -- the entries of a sound recorder are few
-pub few_entries : (r : Running) → IsSound r → length r.stream ≤ 536870912
+pub few_entries : (r : Running) → IsRecorder r → length r.stream ≤ 536870912
 few_entries r sound =
     let most = sound.most_bytes in
     let size = sound.size in

@@ -1,6 +1,6 @@
 pub mod LoneRun
 pub mod Running
-pub mod Outside
+pub mod Sources
 pub mod Added
 pub mod Turns
 pub mod Kept

@@ -1,5 +1,6 @@
 -- One hart on its own, between what a log keeps (docs/recorder.md).
 use Rattle.std.specs.Prelude.{ℕ, zero, suc, ◌≡◌, ◌+◌, ◌-◌, ◌*◌, ◌<◌, nat_lt, Bool, List, [], ◌∷◌, length, find, slice_get, Option, Some, None, IsSome, unwrap_or}
+use Rattle.rv_words.specs.Limits.{page_bytes}
 use Rattle.rv_words.specs.Addresses.{device_word}
 use Rattle.rv_words.specs.declared.shared.Access.{Access}
 use Rattle.rv_words.specs.declared.shared.Mode.{Mode}
@@ -11,9 +12,13 @@ use Rattle.rv_hart.specs.Needs.{pages_needed}
 use Rattle.rv_hart.specs.declared.effect.Effect.{Effect}
 use Rattle.flat_machine.specs.Moves.{fetched, next_move, loaded_for, stored_by}
 use Rattle.log_entry.specs.Parts.{strength}
-use Rattle.replay_model.specs.Board.{unit, next_access}
+use Rattle.replay_model.specs.Board.{next_access}
 use Rattle.recorder.specs.declared.lone_run.Stepped.{Stepped}
 use Rattle.recorder.specs.declared.lone_run.Stepped.TheVariants.{Moved, Wants, AtDevice}
+
+-- the bytes that are owned together in what is recorded: those of a page
+abbrev pub unit : ℕ
+unit = page_bytes
 
 -- the hart with its count of moves, the memory, and what it holds of each page
 pub record LoneRun : Type 0 where
@@ -25,7 +30,7 @@ pub record LoneRun : Type 0 where
 
 -- its parts are of one board with one hart
 pub record IsOneBoard (r : LoneRun) : Type 0 where
-  pub memory_size : length r.memory ≡ 4096 * r.pages
+  pub memory_size : length r.memory ≡ page_bytes * r.pages
   pub hart_pages : r.hart.pages ≡ r.pages
   pub hart_harts : r.hart.harts ≡ 1
   pub held_size : length r.held ≡ r.pages

@@ -2,7 +2,10 @@
 use Rattle.std.specs.Prelude.{ℕ, ◌≡◌, ◌+◌, ◌%◌, ◌<◌, ◌≤◌, sum_by, true, List, [], ◌∷◌, ◌++◌, map, length, replicate, slice_get, slice_index, slice_set, Option, Some, None}
 use Rattle.std.specs.List.{list_all, filter_map}
 use Rattle.rv_words.specs.declared.shared.Mode.{Mode}
+use Rattle.rv_words.specs.declared.shared.Mode.TheVariants.{Read}
 use Rattle.rv_words.specs.declared.shared.Input.{Input}
+use Rattle.rv_words.specs.declared.shared.Input.TheVariants.{Nothing}
+use Rattle.rv_words.specs.Limits.{poll_distance}
 use Rattle.rv_hart.specs.Moves.{after, hart_at_start}
 use Rattle.elf_image.specs.Image.{Image}
 use Rattle.device_board.specs.State.{Devices, devices_at_start, lines_at, with_time}
@@ -14,17 +17,27 @@ use Rattle.log_entry.specs.declared.log.Entry.TheVariants.{Gain, Poll, Touch}
 use Rattle.log_entry.specs.Parts.{count_of, ordinal_of}
 use Rattle.log_entry.specs.Range.{is_entry}
 use Rattle.log_entry.specs.Waits.{WaitList}
-use Rattle.log_entry.specs.Size.{size_of}
+use Rattle.log_entry.specs.Size.{size_in, frame_size}
 use Rattle.orders_law.specs.Orders.{below}
 use Rattle.order_rules.specs.Rules.{has_poll}
 use Rattle.replay_model.specs.Board.{board}
 use Rattle.replay_model.specs.Items.{Item}
 use Rattle.order_rules.specs.Holders.{Holders}
-use Rattle.solo_recording.specs.Recording.{Recording, Records}
-use Rattle.recorder.specs.LoneRun.{LoneRun}
+use Rattle.solo_recording.specs.Recording.{SoloRecording, Records}
+use Rattle.recorder.specs.LoneRun.{LoneRun, unit}
 
--- `size` is the length of the log so far with its head, the End and the cause; `next_poll` is the least multiple of 4,096
--- that has no Poll; `numbers` has the next number of each page
+-- the bytes of a Gain, which has no waits, of a Poll and of a Touch
+abbrev pub gain_size : ℕ
+gain_size = size_in unit 1 (Gain 0 0 0 Read (record { items = []; room = 0 }))
+
+abbrev pub poll_size : ℕ
+poll_size = size_in unit 1 (Poll 0 0 0 0)
+
+abbrev pub touch_size : ℕ
+touch_size = size_in unit 1 (Touch 0 0 Nothing)
+
+-- `size` is the length of the log so far with its head, the End and the cause; `next_poll` is the least multiple of the distance
+-- of Polls that has no Poll; `numbers` has the next number of each page
 pub record Running : Type 0 where
   pub run : LoneRun
   pub limit : ℕ
@@ -39,10 +52,11 @@ pub record Running : Type 0 where
 
 -- the bytes of a log of one hart with these entries and an End
 abbrev pub size_with : List Entry → ℕ
-size_with stream = 62 + sum_by size_of stream
+size_with stream = frame_size unit 1 + sum_by (size_in unit 1) stream
 
--- its parts are of one board with one hart, its numbers are in bounds, and its stream has a Poll at each multiple of 4,096 below the next one and nothing from there on
-pub record IsSound (r : Running) : Type 0 where
+-- its parts are of one board with one hart, its numbers are in bounds, and its stream has a Poll at each count below the next one
+-- at which one is due, and nothing from there on
+pub record IsRecorder (r : Running) : Type 0 where
   pub device_harts : r.devices.harts ≡ 1
   pub numbers_size : length r.numbers ≡ r.run.pages
   pub most_bytes : r.log_limit ≤ 536870912
@@ -55,9 +69,9 @@ pub record IsSound (r : Running) : Type 0 where
   pub ordinals : filter_map ordinal_of r.stream ≡ below r.ordinal
   pub numbers : (page : ℕ) → slice_index r.numbers page ≤ length r.stream
   pub pause : r.run.count ≤ r.next_poll
-  pub multiple : r.next_poll % 4096 ≡ 0
-  pub next_poll : r.next_poll ≤ r.limit + 4096
-  pub polls : (n : ℕ) → n % 4096 ≡ 0 → n < r.next_poll → has_poll r.stream n ≡ true
+  pub multiple : r.next_poll % poll_distance ≡ 0
+  pub next_poll : r.next_poll ≤ r.limit + poll_distance
+  pub polls : (n : ℕ) → n % poll_distance ≡ 0 → n < r.next_poll → has_poll r.stream n ≡ true
   pub below : (i : ℕ) (e : Entry) → slice_get r.stream i ≡ Some e → count_of e < r.next_poll
   pub entries : list_all (is_entry 1 r.run.pages) r.stream ≡ true
 
@@ -65,10 +79,16 @@ pub record IsSound (r : Running) : Type 0 where
 abbrev pub at_start : Image → ℕ → ℕ → Running
 at_start image limit log_limit =
     record {
-      run = record { pages = image.pages; hart = hart_at_start 0 1 image.pages image.entry; count = 0; memory = image.bytes; held = replicate image.pages None };
+      run = record {
+        pages = image.pages;
+        hart = hart_at_start 0 1 image.pages image.entry;
+        count = 0;
+        memory = image.bytes;
+        held = replicate image.pages None;
+      };
       limit = limit;
       log_limit = log_limit;
-      size = 62;
+      size = frame_size unit 1;
       next_poll = 0;
       devices = devices_at_start 1;
       spare = 0;
@@ -84,7 +104,7 @@ abbrev pub flat_of : Running → FlatState
 flat_of r = record { harts = r.run.hart ∷ []; counts = r.run.count ∷ []; memory = r.run.memory; devices = r.devices }
 
 -- the recording that it stands for
-abbrev pub recording_of : Running → Recording FlatState
+abbrev pub recording_of : Running → SoloRecording FlatState
 recording_of r =
     record {
       at = record {
@@ -100,7 +120,7 @@ abbrev pub gained : Running → ℕ → Mode → WaitList → Running
 gained r page mode waits =
     record r {
       run = record r.run { held = slice_set r.run.held page (Some mode) };
-      size = r.size + 17;
+      size = r.size + gain_size;
       numbers = slice_set r.numbers page (slice_index r.numbers page + 1);
       stream = r.stream ++ Gain r.run.count page (slice_index r.numbers page) mode waits ∷ [];
     }
@@ -113,8 +133,8 @@ abbrev pub polled_at : Running → ℕ → Running
 polled_at r time =
     record r {
       run = record r.run { hart = with_lines_of (with_time time r.devices) 0 r.run.hart };
-      size = r.size + 22;
-      next_poll = r.next_poll + 4096;
+      size = r.size + poll_size;
+      next_poll = r.next_poll + poll_distance;
       devices = with_time time r.devices;
       ordinal = r.ordinal + 1;
       stream = r.stream ++ Poll r.run.count r.ordinal time (lines_at r.devices 0 time) ∷ [];
@@ -124,8 +144,11 @@ polled_at r time =
 abbrev pub touched_by : Running → Input → Devices × ℕ → ℕ → Running
 touched_by r input d spare =
     record r {
-      run = record r.run { hart = with_lines_of d.0 0 (after r.run.hart (next_move r.run.hart r.run.memory) d.1); count = r.run.count + 1 };
-      size = r.size + 22;
+      run = record r.run {
+        hart = with_lines_of d.0 0 (after r.run.hart (next_move r.run.hart r.run.memory) d.1);
+        count = r.run.count + 1;
+      };
+      size = r.size + touch_size;
       devices = d.0;
       spare = spare;
       ordinal = r.ordinal + 1;
@@ -134,4 +157,4 @@ touched_by r input d spare =
 
 -- some items lead from one state of the recorder to another
 abbrev pub Goes : Running → Running → Type 0
-Goes r s = (items : List Item) × Records board r.limit (recording_of r) items (recording_of s)
+Goes r s = (items : List Item) × Records (board unit) r.limit (recording_of r) items (recording_of s)

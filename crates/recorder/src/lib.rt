@@ -5,6 +5,6 @@
 mod lone_run;
 mod record;
 mod solo;
-mod world;
+mod sources;
 
-pub use record::{OutOfMemory, Recorded, record_one};
+pub use record::{OutOfMemory, SoloRecorded, record_one};

@@ -9,11 +9,11 @@ ghost use Rattle.rv_hart.specs.Needs.{page_at, data_pages};
 ghost use Rattle.rv_hart.specs.Places.{WordInMemory, NeedIsThere};
 ghost use Rattle.flat_machine.specs.Moves.{fetched};
 ghost use Rattle.rv_words.specs.declared.shared.Mode.TheVariants.{Read};
-ghost use Rattle.recorder.specs.LoneRun.{lacks, first_lacking, Steps, Leg, IsOneBoard, finished};
+ghost use Rattle.recorder.specs.LoneRun.{unit, lacks, first_lacking, Steps, Leg, IsOneBoard, finished};
 
 use flat_machine::Ram;
 use rv_hart::{Fetch, Hart, Need};
-use rv_words::{Access, Mode};
+use rv_words::{Access, Mode, PAGE_BYTES};
 use std::marker::Model;
 
 /// What became of a step.
@@ -42,9 +42,15 @@ impl Model for LoneRun {
 
     ghost Value = { lone.LoneRun };
 
-    ghost view = { λ r. record { pages = r.pages; hart = r.hart; count = r.count; memory = r.memory; held = r.held.items } };
+    ghost view = {
+        λ r. record { pages = r.pages; hart = r.hart; count = r.count; memory = r.memory; held = r.held.items }
+    };
 
-    ghost invariant = { λ r. IsOneBoard (record { pages = r.pages; hart = r.hart; count = r.count; memory = r.memory; held = r.held.items }) };
+    ghost invariant = {
+        λ r. IsOneBoard (record {
+            pages = r.pages; hart = r.hart; count = r.count; memory = r.memory; held = r.held.items
+        })
+    };
 }
 
 /// How much a hold is worth: nothing, Read, Write.
@@ -60,9 +66,9 @@ fn strength(hold: Option<Mode>) -> u8
 
 fn page_of(at: u32) -> u32
     requires { 0x80000000 ≤ at }
-    ensures { result ≡ page_at 4096 at }
+    ensures { result ≡ page_at unit at }
 {
-    (at - 0x8000_0000) / 4096
+    (at - 0x8000_0000) / u32::from(PAGE_BYTES)
 }
 
 impl LoneRun {
@@ -126,7 +132,7 @@ impl LoneRun {
     /// Whether the page of an address is held in no such mode.
     fn lacks(&self, at: u32, mode: Mode) -> bool
         requires { WordInMemory self.now.pages at }
-        ensures { result ≡ lacks self.now.held (page_at 4096 at, mode) }
+        ensures { result ≡ lacks self.now.held (page_at unit at, mode) }
     {
         strength(self.held[page_of(at) as usize]) < strength(Some(mode))
     }
@@ -134,7 +140,7 @@ impl LoneRun {
     /// The page of an address, where it is held in no such mode.
     fn lacking_at(&self, at: u32, mode: Mode) -> Option<(u32, Mode)>
         requires { WordInMemory self.now.pages at }
-        ensures lacking { result ≡ first_lacking self.now.held ((page_at 4096 at, mode) ∷ []) }
+        ensures lacking { result ≡ first_lacking self.now.held ((page_at unit at, mode) ∷ []) }
         ensures inside { IfSome result (λ n. n.0 < self.now.pages) }
     {
         if self.lacks(at, mode) {
@@ -147,7 +153,7 @@ impl LoneRun {
     /// The page of the data that a move needs, where it isn't held so.
     fn lacking(&self, need: Need) -> Option<(u32, Mode)>
         requires { NeedIsThere self.now.hart need }
-        ensures lacking { result ≡ first_lacking self.now.held (data_pages 4096 need) }
+        ensures lacking { result ≡ first_lacking self.now.held (data_pages unit need) }
         ensures inside { IfSome result (λ n. n.0 < self.now.pages) }
     {
         let _ = &self.pages;
@@ -163,7 +169,7 @@ impl LoneRun {
     fn execute(&mut self, word: u32) -> Stepped
         requires count { self.old.count + 1 < 2 ^ 64 }
         requires word { fetched self.old.hart self.old.memory ≡ Some word }
-        requires held { lacks self.old.held (page_at 4096 self.old.hart.pc, Read) ≡ false }
+        requires held { lacks self.old.held (page_at unit self.old.hart.pc, Read) ≡ false }
         ensures { Steps self.old self.new result }
     {
         let effect = self.hart.effect(word);

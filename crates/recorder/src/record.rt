@@ -3,9 +3,10 @@
 ghost use Rattle.std.specs.Prelude.{◌≡◌, ◌≤◌, IfOk};
 ghost use Rattle.recorder.specs.Running.{at_start};
 ghost use Rattle.recorder.specs.Kept.{Comes};
+ghost use Rattle.recorder.specs.Sources.{sources};
 
 use crate::solo::{Ended, Solo};
-use crate::world::Outside;
+use crate::sources::Sources;
 use elf_image::Image;
 use flat_machine::Final;
 use log_entry::Log;
@@ -15,7 +16,7 @@ use std::alloc::Global;
 
 /// What was recorded, and what was handed in.
 #[derive(Drop)]
-pub struct Recorded<C: Console, K: Clock> {
+pub struct SoloRecorded<C: Console, K: Clock> {
     pub log: Log,
     /// What the run ended with.
     pub ended: Final,
@@ -35,15 +36,15 @@ fn record<C: Console, K: Clock>(
     image: &Image,
     limit: u64,
     log_limit: u64,
-    outside: &mut Outside<C, K>,
+    sources: &mut Sources<C, K>,
 ) -> Result<(Log, Final), NoMemory>
     requires limit { limit ≤ 1000000000000 }
     requires least { 1024 ≤ log_limit }
     requires most { log_limit ≤ 536870912 }
-    ensures { IfOk result (λ r. Comes image.now limit log_limit outside.old outside.new r.0 r.1) }
+    ensures { IfOk result (λ r. Comes image.now limit log_limit sources.old sources.new r.0 r.1) }
 {
     let mut solo = Solo::start(alloc, image, limit, log_limit)?;
-    match solo.run(alloc, outside) {
+    match solo.run(alloc, sources) {
         Ended::NoMemory => Err(NoMemory),
         Ended::By(cause) => solo.finish(alloc, image.pages(), image.digest(), cause),
     }
@@ -58,20 +59,20 @@ pub fn record_one<C: Console, K: Clock>(
     log_limit: u64,
     console: C,
     clock: K,
-) -> Result<Recorded<C, K>, OutOfMemory<C, K>>
+) -> Result<SoloRecorded<C, K>, OutOfMemory<C, K>>
     requires limit { limit ≤ 1000000000000 }
     requires least { 1024 ≤ log_limit }
     requires most { log_limit ≤ 536870912 }
-    ensures { IfOk result (λ r. Comes image.now limit log_limit
-        (record { tells_answers = C.tells_answers console; answers = C.answers console; tells_taken = C.tells_taken console; taken = C.taken console; faults = C.faults console; tells_times = K.tells clock; times = K.answers clock })
-        (record { tells_answers = C.tells_answers r.console; answers = C.answers r.console; tells_taken = C.tells_taken r.console; taken = C.taken r.console; faults = C.faults r.console; tells_times = K.tells r.clock; times = K.answers r.clock })
-        r.log r.ended) }
+    ensures {
+        IfOk result (λ r. Comes image.now limit log_limit (sources (C.seen console) (K.seen clock))
+            (sources (C.seen r.console) (K.seen r.clock)) r.log r.ended)
+    }
 {
-    let mut outside = Outside::of(console, clock);
-    let recorded = record(alloc, image, limit, log_limit, &mut outside);
-    let (console, clock) = outside.into_parts();
+    let mut sources = Sources::of(console, clock);
+    let recorded = record(alloc, image, limit, log_limit, &mut sources);
+    let (console, clock) = sources.into_parts();
     match recorded {
-        Ok((log, ended)) => Ok(Recorded {
+        Ok((log, ended)) => Ok(SoloRecorded {
             log,
             ended,
             console,

@@ -7,21 +7,21 @@ ghost use Rattle.flat_machine.specs.Runs.{final_of};
 ghost use Rattle.log_entry.specs.declared.log.Entry.TheVariants.{End};
 ghost use Rattle.replay_model.specs.Board.{board};
 ghost use Rattle.solo_recording.specs.Recording.{log_of_recording};
-ghost use Rattle.recorder.specs.LoneRun.{IsAtDevice, want_of};
-ghost use Rattle.recorder.specs.Running.{IsSound, Gains, at_start, recording_of, flat_of};
-ghost use Rattle.recorder.specs.Outside as outsides;
+ghost use Rattle.recorder.specs.LoneRun.{unit, IsAtDevice, want_of};
+ghost use Rattle.recorder.specs.Running.{IsRecorder, Gains, gain_size, poll_size, touch_size, at_start, recording_of, flat_of};
+ghost use Rattle.recorder.specs.Sources as seen;
 ghost use Rattle.recorder.specs.Added.{Polls, Accesses, Touches};
 ghost use Rattle.recorder.specs.Turns.{IsGoing, LegTo, GainsTo, PollsTo, GoesTo, TurnsTo, EndsBy};
 
 use crate::lone_run::{LoneRun, Stepped};
-use crate::world::Outside;
+use crate::sources::Sources;
 use device_board::{Devices, Touched};
 use elf_image::Image;
 use flat_machine::{Bytes, Counts, Final, Harts, Memory, Ram};
-use log_entry::{Entries, Entry, Log, Streams, Waits};
+use log_entry::{Entries, Entry, Log, Streams, Waits, frame_size, size_in};
 use outside::{Clock, Console};
 use rv_hart::Hart;
-use rv_words::{Access, Cause, Mode};
+use rv_words::{Access, Cause, Input, Mode, PAGE_BYTES, POLL_DISTANCE};
 use shared_types::NoMemory;
 use std::alloc::Global;
 use std::marker::Model;
@@ -52,7 +52,59 @@ impl Model for Solo {
 
     ghost Value = { running.Running };
 
-    ghost view = { λ s. record { run = s.run; limit = s.limit; log_limit = s.log_limit; size = s.size; next_poll = s.next_poll; devices = s.devices.devices; spare = s.devices.spare; numbers = s.numbers.items; ordinal = s.ordinal; stream = s.stream.items } };
+    ghost view = {
+        λ s. record {
+            run = s.run;
+            limit = s.limit;
+            log_limit = s.log_limit;
+            size = s.size;
+            next_poll = s.next_poll;
+            devices = s.devices.devices;
+            spare = s.devices.spare;
+            numbers = s.numbers.items;
+            ordinal = s.ordinal;
+            stream = s.stream.items
+        }
+    };
+}
+
+/// The bytes of a Gain, which has no waits.
+fn gain_size(alloc: Global) -> u64
+    ensures { result ≡ gain_size }
+{
+    let gain = Entry::Gain {
+        count: 0,
+        page: 0,
+        seq: 0,
+        mode: Mode::Read,
+        waits: Waits::of(Vec::new(alloc)),
+    };
+    size_in(PAGE_BYTES, 1, &gain)
+}
+
+/// The bytes of a Poll.
+fn poll_size() -> u64
+    ensures { result ≡ poll_size }
+{
+    let poll = Entry::Poll {
+        count: 0,
+        ord: 0,
+        time: 0,
+        bits: 0,
+    };
+    size_in(PAGE_BYTES, 1, &poll)
+}
+
+/// The bytes of a Touch.
+fn touch_size() -> u64
+    ensures { result ≡ touch_size }
+{
+    let touch = Entry::Touch {
+        count: 0,
+        ord: 0,
+        input: Input::Nothing,
+    };
+    size_in(PAGE_BYTES, 1, &touch)
 }
 
 /// A list of one thing.
@@ -121,7 +173,7 @@ impl Solo {
             run: LoneRun::of(pages, hart, Ram::of(memory), held),
             limit,
             log_limit,
-            size: 62,
+            size: frame_size(PAGE_BYTES, 1),
             next_poll: 0,
             devices: Devices::start(alloc, 1),
             numbers,
@@ -138,7 +190,7 @@ impl Solo {
         image: [u8; 32],
         cause: Cause,
     ) -> Result<(Log, Final), NoMemory>
-        ensures log { IfOk result (λ r. r.0 ≡ log_of_recording board self.limit pages image cause (recording_of self)) }
+        ensures log { IfOk result (λ r. r.0 ≡ log_of_recording (board unit) self.limit pages image cause (recording_of self)) }
         ensures ended { IfOk result (λ r. r.1 ≡ final_of (flat_of self) cause) }
     {
         let count = self.run.count();
@@ -173,9 +225,9 @@ impl Solo {
 
     /// Adds the Gain of a page.
     fn add_gain(&mut self, alloc: Global, page: u32, mode: Mode) -> Result<(), Ended>
-        requires sound { IsSound self.old }
+        requires sound { IsRecorder self.old }
         requires inside { page < self.old.run.pages }
-        requires room { self.old.size + 17 ≤ self.old.log_limit }
+        requires room { self.old.size + gain_size ≤ self.old.log_limit }
         ensures gained { OnOk result (Gains self.old page mode self.new) }
         ensures memory { IfErr result (λ e. e ≡ Ended.NoMemory) }
     {
@@ -187,23 +239,24 @@ impl Solo {
             mode,
             waits: Waits::of(Vec::new(alloc)),
         };
+        let size = size_in(PAGE_BYTES, 1, &gain);
         if self.stream.push(gain).is_err() {
             return Err(Ended::NoMemory);
         }
         self.run.hold(page, mode);
         self.numbers[page as usize] = seq + 1;
-        self.size += 17;
+        self.size += size;
         Ok(())
     }
 
     /// Asks the clock, gives the hart its lines of that time, and adds the Poll.
-    fn add_poll<C: Console, K: Clock>(&mut self, outside: &mut Outside<C, K>) -> Result<(), Ended>
-        requires sound { IsSound self.old }
-        requires room { self.old.size + 22 ≤ self.old.log_limit }
-        ensures polled { OnOk result (Polls outside.old outside.new self.old self.new) }
+    fn add_poll<C: Console, K: Clock>(&mut self, sources: &mut Sources<C, K>) -> Result<(), Ended>
+        requires sound { IsRecorder self.old }
+        requires room { self.old.size + poll_size ≤ self.old.log_limit }
+        ensures polled { OnOk result (Polls sources.old sources.new self.old self.new) }
         ensures memory { IfErr result (λ e. e ≡ Ended.NoMemory) }
     {
-        let time = self.devices.poll(outside.time());
+        let time = self.devices.poll(sources.time());
         let bits = self.devices.lines(0);
         let poll = Entry::Poll {
             count: self.run.count(),
@@ -211,30 +264,31 @@ impl Solo {
             time,
             bits,
         };
+        let size = size_in(PAGE_BYTES, 1, &poll);
         if self.stream.push(poll).is_err() {
             return Err(Ended::NoMemory);
         }
         self.run.set_lines(bits);
         self.ordinal += 1;
-        self.next_poll += 4096;
-        self.size += 22;
+        self.next_poll += POLL_DISTANCE;
+        self.size += size;
         Ok(())
     }
 
     /// Makes a device access.
     fn access<C: Console, K: Clock>(
         &mut self,
-        outside: &mut Outside<C, K>,
+        sources: &mut Sources<C, K>,
         access: Access,
     ) -> Result<Touched, Ended>
         requires harts { self.old.devices.harts ≡ 1 }
         requires device { IsSome (device_word 1 access.at) }
-        ensures { Accesses outside.old outside.new access result self.old self.new }
+        ensures { Accesses sources.old sources.new access result self.old self.new }
     {
         if self.devices.reserve(1).is_err() {
             return Err(Ended::NoMemory);
         }
-        match outside.touch(&mut self.devices, access) {
+        match sources.touch(&mut self.devices, access) {
             Ok(touched) => Ok(touched),
             Err(_) => Err(Ended::By(Cause::Fault)),
         }
@@ -243,17 +297,17 @@ impl Solo {
     /// Makes the device access that is the next move, and adds the Touch.
     fn add_touch<C: Console, K: Clock>(
         &mut self,
-        outside: &mut Outside<C, K>,
+        sources: &mut Sources<C, K>,
         word: u32,
         access: Access,
     ) -> Result<Touched, Ended>
-        requires sound { IsSound self.old }
+        requires sound { IsRecorder self.old }
         requires device { IsAtDevice self.old.run word access }
         requires below { self.old.run.count < self.old.limit }
-        requires room { self.old.size + 22 ≤ self.old.log_limit }
-        ensures { Touches outside.old outside.new access result self.old self.new }
+        requires room { self.old.size + touch_size ≤ self.old.log_limit }
+        ensures { Touches sources.old sources.new access result self.old self.new }
     {
-        let touched = match self.access(outside, access) {
+        let touched = match self.access(sources, access) {
             Ok(touched) => touched,
             Err(ended) => return Err(ended),
         };
@@ -262,12 +316,13 @@ impl Solo {
             ord: self.ordinal,
             input: touched.input,
         };
+        let size = size_in(PAGE_BYTES, 1, &touch);
         if self.stream.push(touch).is_err() {
             return Err(Ended::NoMemory);
         }
         self.run.finish(word, touched.loaded, self.devices.lines(0));
         self.ordinal += 1;
-        self.size += 22;
+        self.size += size;
         Ok(touched)
     }
 
@@ -285,7 +340,7 @@ impl Solo {
         requires limit { until ≤ self.old.limit }
         requires pause { until ≤ self.old.next_poll }
         requires further { self.old.run.count ≤ until }
-        ensures { (o : outsides.Outside) → LegTo until o self.old self.new result }
+        ensures { (o : seen.Sources) → LegTo until o self.old self.new result }
     {
         self.run.advance(until)
     }
@@ -295,43 +350,43 @@ impl Solo {
         requires going { IsGoing self.old }
         requires inside { page < self.old.run.pages }
         requires wants { want_of self.old.run ≡ Some (page, mode) }
-        ensures { (o : outsides.Outside) → GainsTo o result self.old self.new }
+        ensures { (o : seen.Sources) → GainsTo o result self.old self.new }
     {
-        if !self.has_room(17) {
+        if !self.has_room(gain_size(alloc)) {
             return Err(Ended::By(Cause::Full));
         }
         self.add_gain(alloc, page, mode)
     }
 
     /// Makes the Poll that is due, where the log has room for it.
-    fn poll<C: Console, K: Clock>(&mut self, outside: &mut Outside<C, K>) -> Result<(), Ended>
-        requires sound { IsSound self.old }
+    fn poll<C: Console, K: Clock>(&mut self, sources: &mut Sources<C, K>) -> Result<(), Ended>
+        requires sound { IsRecorder self.old }
         requires running { self.old.devices.stop ≡ None }
         requires below { self.old.run.count < self.old.limit }
         requires due { self.old.run.count ≡ self.old.next_poll }
-        ensures { PollsTo outside.old outside.new result self.old self.new }
+        ensures { PollsTo sources.old sources.new result self.old self.new }
     {
-        if !self.has_room(22) {
+        if !self.has_room(poll_size()) {
             return Err(Ended::By(Cause::Full));
         }
-        self.add_poll(outside)
+        self.add_poll(sources)
     }
 
     /// Makes the device access that is the next move, where the log has room for it.
     fn touch<C: Console, K: Clock>(
         &mut self,
-        outside: &mut Outside<C, K>,
+        sources: &mut Sources<C, K>,
         word: u32,
         access: Access,
     ) -> Result<(), Ended>
         requires going { IsGoing self.old }
         requires device { IsAtDevice self.old.run word access }
-        ensures { TurnsTo outside.old outside.new result self.old self.new }
+        ensures { TurnsTo sources.old sources.new result self.old self.new }
     {
-        if !self.has_room(22) {
+        if !self.has_room(touch_size()) {
             return Err(Ended::By(Cause::Full));
         }
-        match self.add_touch(outside, word, access) {
+        match self.add_touch(sources, word, access) {
             Ok(_) => Ok(()),
             Err(ended) => Err(ended),
         }
@@ -343,7 +398,7 @@ impl Solo {
         requires limit { until ≤ self.old.limit }
         requires pause { until ≤ self.old.next_poll }
         requires further { self.old.run.count < until }
-        ensures { (o : outsides.Outside) → GoesTo until o result self.old self.new }
+        ensures { (o : seen.Sources) → GoesTo until o result self.old self.new }
     {
         'gains: loop {
             match self.leg(until) {
@@ -359,9 +414,9 @@ impl Solo {
     }
 
     /// Ends a run that goes no further, and makes the Poll that is due.
-    fn ready<C: Console, K: Clock>(&mut self, outside: &mut Outside<C, K>) -> Result<(), Ended>
-        requires { IsSound self.old }
-        ensures { PollsTo outside.old outside.new result self.old self.new }
+    fn ready<C: Console, K: Clock>(&mut self, sources: &mut Sources<C, K>) -> Result<(), Ended>
+        requires { IsRecorder self.old }
+        ensures { PollsTo sources.old sources.new result self.old self.new }
     {
         if self.devices.stop().is_some() {
             return Err(Ended::By(Cause::Stop));
@@ -370,7 +425,7 @@ impl Solo {
             return Err(Ended::By(Cause::Limit));
         }
         if self.run.count() == self.next_poll {
-            return self.poll(outside);
+            return self.poll(sources);
         }
         Ok(())
     }
@@ -379,19 +434,19 @@ impl Solo {
     fn turn<C: Console, K: Clock>(
         &mut self,
         alloc: Global,
-        outside: &mut Outside<C, K>,
+        sources: &mut Sources<C, K>,
     ) -> Result<(), Ended>
-        requires { IsSound self.old }
-        ensures { TurnsTo outside.old outside.new result self.old self.new }
+        requires { IsRecorder self.old }
+        ensures { TurnsTo sources.old sources.new result self.old self.new }
     {
-        if let Err(ended) = self.ready(outside) {
+        if let Err(ended) = self.ready(sources) {
             return Err(ended);
         }
         let until = self.limit.min(self.next_poll);
         match self.go_to(alloc, until) {
             Err(ended) => Err(ended),
             Ok(None) => Ok(()),
-            Ok(Some((word, access))) => self.touch(outside, word, access),
+            Ok(Some((word, access))) => self.touch(sources, word, access),
         }
     }
 
@@ -399,13 +454,13 @@ impl Solo {
     pub(crate) fn run<C: Console, K: Clock>(
         &mut self,
         alloc: Global,
-        outside: &mut Outside<C, K>,
+        sources: &mut Sources<C, K>,
     ) -> Ended
-        requires { IsSound self.old }
-        ensures { EndsBy outside.old outside.new self.old self.new result }
+        requires { IsRecorder self.old }
+        ensures { EndsBy sources.old sources.new self.old self.new result }
     {
         'turns: loop {
-            if let Err(ended) = self.turn(alloc, outside) {
+            if let Err(ended) = self.turn(alloc, sources) {
                 return ended;
             }
         }

@@ -3,10 +3,10 @@ use Rattle.recorder.proofs.Ending.{touch_full, touch_made, touch_ends}
 use Rattle.recorder.proofs.solo.Solo.touch.Goals as goal
 
 pub returns-then-not-has_room : goal.returns-then-not-has_room
-returns-then-not-has_room g c = touch_full c.args.outside.now c.args.self.now c.args.word c.args.access c.requires.going c.requires.device (sym c.has_room.ensures ∙ c.if-not-has_room.true)
+returns-then-not-has_room g c = touch_full c.args.sources.now c.args.self.now c.args.word c.args.access c.requires.going c.requires.device (sym c.has_room.ensures ∙ c.if-not-has_room.true)
 
 pub returns-in-Ok : goal.returns-in-Ok
-returns-in-Ok g c = touch_made c.args.outside.now c.add_touch.new.outside c.args.self.now c.add_touch.new.self c.args.word c.args.access c.in-Ok.field-0 c.requires.going c.requires.device (sym c.has_room.ensures ∙ c.if-not-has_room.false) c.in-Ok.ensures
+returns-in-Ok g c = touch_made c.args.sources.now c.add_touch.new.sources c.args.self.now c.add_touch.new.self c.args.word c.args.access c.in-Ok.field-0 c.requires.going c.requires.device (sym c.has_room.ensures ∙ c.if-not-has_room.false) c.in-Ok.ensures
 
 pub returns-in-Err : goal.returns-in-Err
-returns-in-Err g c = touch_ends c.args.outside.now c.add_touch.new.outside c.args.self.now c.add_touch.new.self c.args.word c.args.access c.in-Err.ended c.requires.going c.requires.device (sym c.has_room.ensures ∙ c.if-not-has_room.false) c.in-Err.ensures
+returns-in-Err g c = touch_ends c.args.sources.now c.add_touch.new.sources c.args.self.now c.add_touch.new.self c.args.word c.args.access c.in-Err.ended c.requires.going c.requires.device (sym c.has_room.ensures ∙ c.if-not-has_room.false) c.in-Err.ensures

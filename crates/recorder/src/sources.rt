@@ -1,9 +1,9 @@
-//! The console and the clock that a recording asks.
+//! The sources of a recording: the console and the clock that it asks.
 
 ghost use Rattle.std.specs.Prelude.{◌≡◌, ◌≤◌, IsSome, OnErr, IfOk, Some};
 ghost use Rattle.rv_words.specs.Addresses.{device_word};
 ghost use Rattle.device_board.specs.Accesses.{touched, HasRoom, RoomIsKept};
-ghost use Rattle.recorder.specs.Outside.{AsksClock, AsksFor, Accessed, Refused, asks_clock};
+ghost use Rattle.recorder.specs.Sources.{sources, AsksClock, AsksFor, Accessed, Refused, asks_clock};
 
 use device_board::{ConsoleFailed, Devices, Touched};
 use outside::{Clock, Console};
@@ -12,17 +12,17 @@ use std::marker::Model;
 
 /// A console and a clock, as contracts speak of what each tells.
 #[derive(Drop)]
-pub(crate) struct Outside<C: Console, K: Clock> {
+pub(crate) struct Sources<C: Console, K: Clock> {
     console: C,
     clock: K,
 }
 
-impl<C: Console, K: Clock> Model for Outside<C, K> {
-    ghost use Rattle.recorder.specs.Outside as outside;
+impl<C: Console, K: Clock> Model for Sources<C, K> {
+    ghost use Rattle.recorder.specs.Sources as seen;
 
-    ghost Value = { outside.Outside };
+    ghost Value = { seen.Sources };
 
-    ghost view = { λ o. record { tells_answers = C.tells_answers o.console; answers = C.answers o.console; tells_taken = C.tells_taken o.console; taken = C.taken o.console; faults = C.faults o.console; tells_times = K.tells o.clock; times = K.answers o.clock } };
+    ghost view = { λ o. record { console = C.seen o.console; clock = K.seen o.clock } };
 }
 
 /// Whether the access is a load of a half of mtime.
@@ -36,15 +36,15 @@ fn asks_clock(access: Access, harts: u8) -> bool
     }
 }
 
-impl<C: Console, K: Clock> Outside<C, K> {
+impl<C: Console, K: Clock> Sources<C, K> {
     pub(crate) fn of(console: C, clock: K) -> Self
-        ensures { result ≡ record { tells_answers = C.tells_answers console; answers = C.answers console; tells_taken = C.tells_taken console; taken = C.taken console; faults = C.faults console; tells_times = K.tells clock; times = K.answers clock } }
+        ensures { result ≡ sources (C.seen console) (K.seen clock) }
     {
-        Outside { console, clock }
+        Sources { console, clock }
     }
 
     pub(crate) fn into_parts(self) -> (C, K)
-        ensures { self ≡ record { tells_answers = C.tells_answers result.0; answers = C.answers result.0; tells_taken = C.tells_taken result.0; taken = C.taken result.0; faults = C.faults result.0; tells_times = K.tells result.1; times = K.answers result.1 } }
+        ensures { self ≡ sources (C.seen result.0) (K.seen result.1) }
     {
         (self.console, self.clock)
     }
@@ -77,9 +77,11 @@ impl<C: Console, K: Clock> Outside<C, K> {
         requires harts { devices.old.devices.harts ≡ 1 }
         requires word { IsSome (device_word devices.old.devices.harts access.at) }
         requires room { HasRoom devices.old access }
-        ensures devices { IfOk result (λ t. touched devices.old.devices access t.input ≡ Some (devices.new.devices, t.loaded)) }
+        ensures devices {
+            IfOk result (λ t. touched devices.old.devices access t.input ≡ Some (devices.new.devices, t.loaded))
+        }
         ensures harts { devices.new.devices.harts ≡ devices.old.devices.harts }
-        ensures outside { IfOk result (λ t. Accessed self.old self.new devices.old.devices access t.input) }
+        ensures accessed { IfOk result (λ t. Accessed self.old self.new devices.old.devices access t.input) }
         ensures refused { OnErr result (Refused self.old self.new devices.old.devices access) }
         ensures as_before { OnErr result (devices.new ≡ devices.old) }
     {
