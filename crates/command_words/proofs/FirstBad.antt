@@ -25,11 +25,13 @@ IsFillable (AnOption given) = Unit {0}
 IsFillable (ANumber least greatest with) = (text : List ℕ) × (n : ℕ) × (number_in least greatest text ≡ Some n)
 IsFillable (AName with) = Unit {0}
 
-module _ {G : Type 0} (option : G → List ℕ → Option (Next G)) (names : Words) (fills : (given : G) (word : List ℕ) (next : Next G) → option given word ≡ Some next → IsFillable next) where
+module _ {G : Type 0} (option : G → List ℕ → Option (Next G)) (names : Words)
+    (fills : (given : G) (word : List ℕ) (next : Next G) → option given word ≡ Some next → IsFillable next) where
   abbrev rest : ℕ → Words → Option (Next G) → Result G ℕ
   rest place words after = elim after [ Some next ↦ options option names next (place + 1) words | None ↦ Err place ]
 
-  unfolds : (next : Next G) (place : ℕ) (word : List ℕ) (words : Words) → options option names next place (word ∷ words) ≡ rest place words (behind option names next place word)
+  unfolds : (next : Next G) (place : ℕ) (word : List ℕ) (words : Words)
+      → options option names next place (word ∷ words) ≡ rest place words (behind option names next place word)
   unfolds (AnOption given) place word words = refl
   unfolds (ANumber least greatest with) place word words = refl
   unfolds (AName with) place word words = refl
@@ -52,27 +54,33 @@ module _ {G : Type 0} (option : G → List ℕ → Option (Next G)) (names : Wor
     by true same = subst IsFillable (same_Some _ _ same) tt
     by false same = absurd (none-some _ same)
 
-  ends_early : (next : Next G) (from place : ℕ) → IsFillable next → options option names next from [] ≡ Err place → StopsAt (options option names next from) from [] place
+  ends_early : (next : Next G) (from place : ℕ) → IsFillable next → options option names next from [] ≡ Err place
+      → StopsAt (options option names next from) from [] place
   ends_early (AnOption given) from place fill e = absurd (ok_no_err given place e)
   ends_early (ANumber least greatest with) from place fill e =
-      stops_here (options option names (ANumber least greatest with) from) from place [] (sym (same_place from place e)) (can_go_on (ANumber least greatest with) from fill) (λ w tail is more. absurd (nothing_there w tail is))
+      stops_here (options option names (ANumber least greatest with) from) from place [] (sym (same_place from place e))
+      (can_go_on (ANumber least greatest with) from fill) (λ w tail is more. absurd (nothing_there w tail is))
   ends_early (AName with) from place fill e =
-      stops_here (options option names (AName with) from) from place [] (sym (same_place from place e)) (can_go_on (AName with) from fill) (λ w tail is more. absurd (nothing_there w tail is))
+      stops_here (options option names (AName with) from) from place [] (sym (same_place from place e)) (can_go_on (AName with) from fill)
+      (λ w tail is more. absurd (nothing_there w tail is))
 
   pub options_stop : (next : Next G) (from : ℕ) → IsFillable next → IsLeftToRight (options option names next from) from
   options_stop next from fill [] place e = ends_early next from place fill e
   options_stop next from fill (word ∷ words) place e =
       by (behind option names next from word) refl (λ after is. options_stop after (from + 1) (fills_behind next after from word is) words place) where
         by : (after : Option (Next G)) → behind option names next from word ≡ after
-            → ((after : Next G) → behind option names next from word ≡ Some after → options option names after (from + 1) words ≡ Err place → StopsAt (options option names after (from + 1)) (from + 1) words place)
+            → ((after : Next G) → behind option names next from word ≡ Some after → options option names after (from + 1) words ≡ Err place
+            → StopsAt (options option names after (from + 1)) (from + 1) words place)
             → StopsAt (options option names next from) from (word ∷ words) place
         by (Some after) is later =
-            stops_later (options option names next from) (options option names after (from + 1)) from place word words (λ more. unfolds next from word more ∙ ap (rest from more) is)
+            stops_later (options option names next from) (options option names after (from + 1)) from place word words
+            (λ more. unfolds next from word more ∙ ap (rest from more) is)
             (later after is (sym (unfolds next from word words ∙ ap (rest from words) is) ∙ e))
         by None is later =
             let here : Err from ≡ Err place = sym (unfolds next from word words ∙ ap (rest from words) is) ∙ e in
             stops_here (options option names next from) from place (word ∷ words) (sym (same_place from place here)) (can_go_on next from fill)
-            (λ w tail same more. subst (λ x. options option names next from (x ∷ more) ≡ Err place) (head_is word w words tail same) (unfolds next from word more ∙ (ap (rest from more) is ∙ here)))
+            (λ w tail same more. subst (λ x. options option names next from (x ∷ more) ≡ Err place) (head_is word w words tail same)
+            (unfolds next from word more ∙ (ap (rest from more) is ∙ here)))
 
 -- the job of what the options give
 module _ {G : Type 0} (job : G → Job) (read : Words → Result G ℕ) (from : ℕ) where
@@ -112,8 +120,10 @@ record_fills : (given : RecordOptions) (word : List ℕ) (next : Next RecordOpti
 record_fills given word next =
     fills_if (bytes_eq word (codes "--harts")) (is_some given.harts) (ANumber 1 8 (λ n. record given { harts = Some n })) _ next (codes "1", 1, refl)
     (fills_if (bytes_eq word (codes "--pages")) (is_some given.pages) (ANumber 1 4096 (λ n. record given { pages = Some n })) _ next (codes "1", 1, refl)
-    (fills_if (bytes_eq word (codes "--limit")) (is_some given.limit) (ANumber 0 1000000000000 (λ n. record given { limit = Some n })) _ next (codes "0", 0, refl)
-    (fills_if (bytes_eq word (codes "--log-limit")) (is_some given.log_limit) (ANumber 1024 536870912 (λ n. record given { log_limit = Some n })) _ next (codes "1024", 1024, refl)
+    (fills_if (bytes_eq word (codes "--limit")) (is_some given.limit) (ANumber 0 1000000000000 (λ n. record given { limit = Some n })) _ next
+    (codes "0", 0, refl)
+    (fills_if (bytes_eq word (codes "--log-limit")) (is_some given.log_limit) (ANumber 1024 536870912 (λ n. record given { log_limit = Some n })) _ next
+    (codes "1024", 1024, refl)
     (fills_if (bytes_eq word (codes "--dump")) (is_some given.dump) (AName (λ place. record given { dump = Some place })) _ next tt
     (fills_if (bytes_eq word (codes "--rounds")) given.rounds (AnOption (record given { rounds = true })) None next tt (λ e. absurd (none-some _ e)))))))
 
@@ -121,7 +131,8 @@ replay_fills : (given : ReplayOptions) (word : List ℕ) (next : Next ReplayOpti
 replay_fills given word next =
     fills_if (bytes_eq word (codes "--dump")) (is_some given.dump) (AName (λ place. record given { dump = Some place })) _ next tt
     (fills_if (bytes_eq word (codes "--one")) (is_some given.way) (AnOption (record given { way = Some One })) _ next tt
-    (fills_if (bytes_eq word (codes "--rounds")) (is_some given.way) (AnOption (record given { way = Some Rounds })) None next tt (λ e. absurd (none-some _ e))))
+    (fills_if (bytes_eq word (codes "--rounds")) (is_some given.way) (AnOption (record given { way = Some Rounds })) None next tt
+    (λ e. absurd (none-some _ e))))
 
 module _ (image log : List ℕ) where
   record_ends : IsLeftToRight (λ words. job_from recording (options record_option (image ∷ log ∷ []) (AnOption no_record_option) 3 words)) 3
@@ -137,7 +148,8 @@ module _ (image log : List ℕ) where
   replay_can = ([], refl)
 
 -- two names, and then what stands behind them
-module _ (rest : List ℕ → List ℕ → Words → Result Job ℕ) (can : (image log : List ℕ) → CanRead (rest image log)) (stops : (image log : List ℕ) → IsLeftToRight (rest image log) 3) where
+module _ (rest : List ℕ → List ℕ → Words → Result Job ℕ) (can : (image log : List ℕ) → CanRead (rest image log))
+    (stops : (image log : List ℕ) → IsLeftToRight (rest image log) 3) where
   two_stop : IsLeftToRight (λ words. name [] 1 words (λ image words. name (image ∷ []) 2 words (rest image))) 1
   two_stop =
       name_stops [] 1 _ (λ image ok. name_can (image ∷ []) 2 (rest image) (λ log fine. can image log) (λ log fine. stops image log))
@@ -165,10 +177,14 @@ module _ (hart : ℕ) where
   to_words from words = number from (last_to from) 5 words (λ to words. no_more 6 words (Trace 1 2 hart from to))
 
   to_can : (n : ℕ) (word : List ℕ) → number_in 0 1000000000000 word ≡ Some n → CanRead (to_words n)
-  to_can n word is = number_can n (last_to n) 5 (λ to words. no_more 6 words (Trace 1 2 hart n to)) word n (to_itself n word is) ([], refl) (λ w to fine. no_more_stops 6 (Trace 1 2 hart n to))
+  to_can n word is =
+      number_can n (last_to n) 5 (λ to words. no_more 6 words (Trace 1 2 hart n to)) word n (to_itself n word is) ([], refl)
+      (λ w to fine. no_more_stops 6 (Trace 1 2 hart n to))
 
   to_stops : (n : ℕ) (word : List ℕ) → number_in 0 1000000000000 word ≡ Some n → IsLeftToRight (to_words n) 5
-  to_stops n word is = number_stops n (last_to n) 5 (λ to words. no_more 6 words (Trace 1 2 hart n to)) word n (to_itself n word is) ([], refl) (λ w to fine. no_more_stops 6 (Trace 1 2 hart n to))
+  to_stops n word is =
+      number_stops n (last_to n) 5 (λ to words. no_more 6 words (Trace 1 2 hart n to)) word n (to_itself n word is) ([], refl)
+      (λ w to fine. no_more_stops 6 (Trace 1 2 hart n to))
 
   abbrev from_words : Words → Result Job ℕ
   from_words words = number 0 1000000000000 4 words to_words
@@ -215,11 +231,13 @@ module _ (command : List ℕ) (words : Words) (place : ℕ) where
       choice (bytes_eq command (codes "record")) record_of _ (known record_of (two_stop _ record_can record_ends) e)
       (choice (bytes_eq command (codes "replay")) replay_of _ (known replay_of (two_stop _ replay_can replay_ends) e)
       (choice (bytes_eq command (codes "inspect")) inspect_of _ (known inspect_of inspect_stops e)
-      (choice (bytes_eq command (codes "trace")) trace_of _ (known trace_of (two_stop (λ image log. moves_of) (λ image log. moves_can) (λ image log. moves_stop)) e)
+      (choice (bytes_eq command (codes "trace")) trace_of _
+      (known trace_of (two_stop (λ image log. moves_of) (λ image log. moves_can) (λ image log. moves_stop)) e)
       (choice (bytes_eq command (codes "sample")) sample_of _ (known sample_of sample_stops e) (unknown e))))) (λ more. refl)
 
 job_stops_at : IsLeftToRight job_of 0
-job_stops_at [] place e = stops_here job_of 0 place [] (sym (same_place 0 place e)) (codes "sample" ∷ codes "0" ∷ [], refl) (λ w tail is more. absurd (nothing_there w tail is))
+job_stops_at [] place e =
+    stops_here job_of 0 place [] (sym (same_place 0 place e)) (codes "sample" ∷ codes "0" ∷ [], refl) (λ w tail is more. absurd (nothing_there w tail is))
 job_stops_at (command ∷ words) place e = command_stops command words place e
 
 -- a reader that stops at a place
@@ -240,7 +258,8 @@ module _ (words : Words) (place : ℕ) (s : StopsAt job_of 0 words place) where
   bad_there [] is l begins = let n = long in let e = ap length is in absurd (omega (arith, l, n, e))
   bad_there (w ∷ tail) is l begins =
       let more = begins.0 in
-      let ok : IsOk (job_of (s.before ++ w ∷ more)) = subst (λ ws. IsOk (job_of ws)) (ap (λ ws. ws ++ more) (taken_more w tail is) ∙ append_assoc s.before (w ∷ []) more) begins.1 in
+      let ok : IsOk (job_of (s.before ++ w ∷ more)) =
+      subst (λ ws. IsOk (job_of ws)) (ap (λ ws. ws ++ more) (taken_more w tail is) ∙ append_assoc s.before (w ∷ []) more) begins.1 in
       true≢false (sym (subst IsOk (s.bad w tail is more) ok))
 
   first_bad : IsFirstBad words place

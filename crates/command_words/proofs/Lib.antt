@@ -2,3 +2,4 @@ mod Digits
 mod Refused
 mod Stopping
 mod FirstBad
+mod Names

@@ -116,16 +116,22 @@ module _ (names : Words) (from : ℕ) (rest : List ℕ → Words → Result Job 
       (word ∷ more.0, subst IsOk (sym (by_test (is_name names word) true (rest word more.0) (Err from) (fresh_is names))) more.1)
 
   pub name_stops : IsLeftToRight (λ words. name names from words rest) from
-  name_stops [] place e = stops_here (λ words. name names from words rest) from place [] (sym (same_place from place e)) name_can (λ w tail is more. absurd (nothing_there w tail is))
+  name_stops [] place e =
+      stops_here (λ words. name names from words rest) from place [] (sym (same_place from place e)) name_can
+      (λ w tail is more. absurd (nothing_there w tail is))
   name_stops (word ∷ words) place e = by (is_name names word) refl where
     by : (b : Bool) → is_name names word ≡ b → StopsAt (λ words. name names from words rest) from (word ∷ words) place
-    by true t = stops_later (λ words. name names from words rest) (rest word) from place word words (λ more. by_test (is_name names word) true (rest word more) (Err from) t)
+    by true t = stops_later (λ words. name names from words rest) (rest word) from place word words
+        (λ more. by_test (is_name names word) true (rest word more) (Err from) t)
         (later word t words place (sym (by_test (is_name names word) true (rest word words) (Err from) t) ∙ e))
-    by false f = stops_here (λ words. name names from words rest) from place (word ∷ words) (sym (same_place from place (sym (by_test (is_name names word) false (rest word words) (Err from) f) ∙ e))) name_can
+    by false f =
+        stops_here (λ words. name names from words rest) from place (word ∷ words)
+        (sym (same_place from place (sym (by_test (is_name names word) false (rest word words) (Err from) f) ∙ e))) name_can
         (λ w tail is more. subst (λ x. name names from (x ∷ more) rest ≡ Err place) (head_is word w words tail is)
         (by_test (is_name names word) false (rest word more) (Err from) f ∙ (sym (by_test (is_name names word) false (rest word words) (Err from) f) ∙ e)))
 
-module _ (least greatest from : ℕ) (rest : ℕ → Words → Result Job ℕ) (text : List ℕ) (value : ℕ) (is_text : number_in least greatest text ≡ Some value) (can : CanRead (rest value))
+module _ (least greatest from : ℕ) (rest : ℕ → Words → Result Job ℕ) (text : List ℕ) (value : ℕ) (is_text : number_in least greatest text ≡ Some value)
+    (can : CanRead (rest value))
     (later : (word : List ℕ) (n : ℕ) → number_in least greatest word ≡ Some n → IsLeftToRight (rest n) (from + 1)) where
   abbrev read : Words → Result Job ℕ
   read words = number least greatest from words rest

@@ -1,5 +1,6 @@
 -- What holds of each job that words ask for.
-use Rattle.std.specs.Prelude.{ℕ, ◌+◌, ◌<◌, ◌≤◌, Option, Some, None}
+use Rattle.std.specs.Prelude.{ℕ, ◌≢◌, ◌+◌, ◌<◌, ◌≤◌, List, Option, Some, None}
+use Rattle.command_words.specs.Texts.{word_at}
 use Rattle.command_words.specs.declared.job.Job.{Job}
 use Rattle.command_words.specs.declared.job.Job.TheVariants.{Record, Replay, Inspect, Trace, Sample}
 use Rattle.command_words.specs.declared.record.RecordOptions.{RecordOptions}
@@ -13,7 +14,9 @@ IsBelow count None = Unit {0}
 IsBelow count (Some place) = place < count
 
 abbrev pub AreInRange : RecordOptions → Type 0
-AreInRange given = IsWithin 1 8 given.harts × IsWithin 1 4096 given.pages × IsWithin 0 1000000000000 given.limit × IsWithin 1024 536870912 given.log_limit
+AreInRange given =
+    IsWithin 1 8 given.harts × IsWithin 1 4096 given.pages × IsWithin 0 1000000000000 given.limit
+    × IsWithin 1024 536870912 given.log_limit
 
 -- the files of a job are among so many words
 abbrev pub ArePlaces : ℕ → Job → Type 0
@@ -29,3 +32,9 @@ IsInRange (Record image log harts pages limit log_limit dump rounds) =
     IsWithin 1 8 (Some harts) × IsWithin 1 4096 (Some pages) × (limit ≤ 1000000000000) × IsWithin 1024 536870912 (Some log_limit)
 IsInRange (Trace image log hart from to) = (hart < 8) × (from ≤ to) × (to ≤ from + 1000000) × (to ≤ 1000000000000)
 IsInRange _ = Unit {0}
+
+-- the dump of a recording of these words has another name than its log; of the other jobs nothing is said
+abbrev pub KeepsApart : List (List ℕ) → Job → Type 0
+KeepsApart words (Record image log harts pages limit log_limit None rounds) = Unit {0}
+KeepsApart words (Record image log harts pages limit log_limit (Some dump) rounds) = word_at words dump ≢ word_at words log
+KeepsApart words _ = Unit {0}

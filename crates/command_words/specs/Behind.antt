@@ -1,7 +1,9 @@
 -- The value of an option that stands at a place, `again` where the option was given before: the value, or the place
 -- of the word that can't stand there.
-use Rattle.std.specs.Prelude.{ℕ, ◌+◌, Bool, true, false, List, [], ◌∷◌, Option, Some, None, Result, Ok, Err, if◌then◌else◌}
+use Rattle.std.specs.Prelude.{ℕ, ◌≡◌, ◌+◌, Bool, true, false, List, [], ◌∷◌, Option, Some, None, Result, Ok, Err, MatchResult, if◌then◌else◌}
 use Rattle.command_words.specs.Texts.{is_name, number_in}
+use Rattle.command_words.specs.Options.{options, AnOption, Next}
+use Rattle.command_words.specs.declared.job.Usage.{Usage}
 
 abbrev pub ok_or : ℕ → Option ℕ → Result ℕ ℕ
 ok_or place (Some n) = Ok n
@@ -26,3 +28,16 @@ words_behind false words = words
 abbrev pub place_behind : Bool → ℕ → ℕ
 place_behind true place = place + 1 + 1
 place_behind false place = place + 1
+
+-- a call answers what the definitions read
+abbrev pub Reads : {X : Type 0} → Result X ℕ → Result X Usage → Type 0
+Reads read result = MatchResult result (λ x. read ≡ Ok x) (λ u. read ≡ Err u.place)
+
+-- a call read the option that stands at a place: the words from there on give what those behind it give
+abbrev pub ReadsOption : {G : Type 0} → (G → List ℕ → Option (Next G)) → List (List ℕ) → G → ℕ → List ℕ → List (List ℕ)
+    → Result (G × Bool) Usage → Type 0
+ReadsOption option names given place word words result =
+    MatchResult result
+    (λ r. options option names (AnOption given) place (word ∷ words)
+    ≡ options option names (AnOption r.0) (place_behind r.1 place) (words_behind r.1 words))
+    (λ u. options option names (AnOption given) place (word ∷ words) ≡ Err u.place)

@@ -2,10 +2,11 @@
 //! can't stand there. specs/Grammar.antt has the grammar, specs/Tables.antt the options.
 #![tactic(auto)]
 
-ghost use Rattle.std.specs.Prelude.{◌≡◌, length, MatchResult, IfOk, Ok, Err};
+ghost use Rattle.std.specs.Prelude.{◌≡◌, length, IfOk, Ok, Err};
 ghost use Rattle.command_words.specs.Texts.{texts};
+ghost use Rattle.command_words.specs.Behind.{Reads};
 ghost use Rattle.command_words.specs.Grammar.{job_of, asks_free_run};
-ghost use Rattle.command_words.specs.Allowed.{ArePlaces, IsInRange};
+ghost use Rattle.command_words.specs.Allowed.{ArePlaces, IsInRange, KeepsApart};
 ghost use Rattle.command_words.specs.Laws.{PlacesAreFirst};
 
 mod job;
@@ -19,9 +20,9 @@ mod word;
 
 pub use job::{Job, Usage, Way};
 
-/// The job that the words ask for, exactly where they are in the grammar.
-pub fn read_words(words: &[String]) -> Result<Job, Usage>
-    ensures job { MatchResult result (λ job. job_of (texts words.now) ≡ Ok job) (λ u. job_of (texts words.now) ≡ Err u.place) }
+/// The job that the words ask for.
+fn job_of(words: &[String]) -> Result<Job, Usage>
+    ensures job { Reads (job_of (texts words.now)) result }
     ensures places { IfOk result (ArePlaces (length words.now)) }
     ensures ranges { IfOk result IsInRange }
 {
@@ -36,6 +37,17 @@ pub fn read_words(words: &[String]) -> Result<Job, Usage>
         "sample" => other::sample_words(rest),
         _ => Err(Usage { place: 0 }),
     }
+}
+
+/// The job that the words ask for, exactly where they are in the grammar.
+#[tactic(auto, using(crate::proofs::Names::read_apart))]
+pub fn read_words(words: &[String]) -> Result<Job, Usage>
+    ensures job { Reads (job_of (texts words.now)) result }
+    ensures places { IfOk result (ArePlaces (length words.now)) }
+    ensures ranges { IfOk result IsInRange }
+    ensures names { IfOk result (KeepsApart (texts words.now)) }
+{
+    job_of(words)
 }
 
 /// Whether the words are in the grammar and ask for a free run. No free run is served yet, so no words do.

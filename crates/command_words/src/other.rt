@@ -1,5 +1,6 @@
-ghost use Rattle.std.specs.Prelude.{◌≡◌, ◌+◌, length, MatchResult, IfOk, Ok, Err};
+ghost use Rattle.std.specs.Prelude.{◌≡◌, ◌+◌, length, IfOk, Ok, Err};
 ghost use Rattle.command_words.specs.Texts.{texts};
+ghost use Rattle.command_words.specs.Behind.{Reads};
 ghost use Rattle.command_words.specs.Grammar.{inspect_of, trace_of, moves_of, sample_of};
 ghost use Rattle.command_words.specs.Allowed.{ArePlaces, IsInRange};
 
@@ -14,7 +15,7 @@ const LONGEST_TRACE: u64 = 1_000_000;
 
 /// The job of the words behind `inspect`.
 pub(crate) fn inspect_words(words: &[String]) -> Result<Job, Usage>
-    ensures reads { MatchResult result (λ job. inspect_of (texts words.now) ≡ Ok job) (λ u. inspect_of (texts words.now) ≡ Err u.place) }
+    ensures reads { Reads (inspect_of (texts words.now)) result }
     ensures places { IfOk result (ArePlaces (1 + length words.now)) }
     ensures ranges { IfOk result IsInRange }
 {
@@ -28,7 +29,7 @@ pub(crate) fn inspect_words(words: &[String]) -> Result<Job, Usage>
 
 /// The job of the words behind `sample`.
 pub(crate) fn sample_words(words: &[String]) -> Result<Job, Usage>
-    ensures reads { MatchResult result (λ job. sample_of (texts words.now) ≡ Ok job) (λ u. sample_of (texts words.now) ≡ Err u.place) }
+    ensures reads { Reads (sample_of (texts words.now)) result }
     ensures places { IfOk result (ArePlaces (1 + length words.now)) }
     ensures ranges { IfOk result IsInRange }
 {
@@ -46,7 +47,7 @@ pub(crate) fn sample_words(words: &[String]) -> Result<Job, Usage>
 
 /// The trace that the words behind IMAGE and LOG ask for: HART FROM TO.
 fn moves_words(words: &[String]) -> Result<Job, Usage>
-    ensures reads { MatchResult result (λ job. moves_of (texts words.now) ≡ Ok job) (λ u. moves_of (texts words.now) ≡ Err u.place) }
+    ensures reads { Reads (moves_of (texts words.now)) result }
     ensures places { IfOk result (ArePlaces 3) }
     ensures ranges { IfOk result IsInRange }
 {
@@ -82,7 +83,7 @@ fn moves_words(words: &[String]) -> Result<Job, Usage>
 
 /// The job of the words behind `trace`.
 pub(crate) fn trace_words(words: &[String]) -> Result<Job, Usage>
-    ensures reads { MatchResult result (λ job. trace_of (texts words.now) ≡ Ok job) (λ u. trace_of (texts words.now) ≡ Err u.place) }
+    ensures reads { Reads (trace_of (texts words.now)) result }
     ensures places { IfOk result (ArePlaces (1 + length words.now)) }
     ensures ranges { IfOk result IsInRange }
 {

@@ -1,7 +1,7 @@
-ghost use Rattle.std.specs.Prelude.{◌≡◌, ◌+◌, ◌<◌, ◌^◌, IsTrue, [], ◌∷◌, length, string_bytes, MatchResult, IfOk, Ok, Err};
+ghost use Rattle.std.specs.Prelude.{◌≡◌, ◌+◌, ◌<◌, ◌^◌, IsTrue, [], ◌∷◌, length, string_bytes, IfOk, Ok, Err};
 ghost use Rattle.command_words.specs.Texts.{texts};
 ghost use Rattle.command_words.specs.Options.{options, AnOption};
-ghost use Rattle.command_words.specs.Behind.{words_behind, place_behind};
+ghost use Rattle.command_words.specs.Behind.{Reads, ReadsOption};
 ghost use Rattle.command_words.specs.Tables.{record_option, no_record_option};
 ghost use Rattle.command_words.specs.Grammar.{record_of};
 ghost use Rattle.command_words.specs.Allowed.{IsBelow, AreInRange, ArePlaces, IsInRange};
@@ -31,9 +31,11 @@ fn record_option(
     log: &String,
 ) -> Result<(RecordOptions, bool), Usage>
     requires { place < 2 ^ 63 }
-    ensures reads { let names = string_bytes image.now ∷ string_bytes log.now ∷ [] in let before = options record_option names (AnOption given) place (string_bytes option.now ∷ texts words.now) in MatchResult result (λ r. before ≡ options record_option names (AnOption r.0) (place_behind r.1 place) (words_behind r.1 (texts words.now))) (λ u. before ≡ Err u.place) }
+    ensures reads { ReadsOption record_option (string_bytes image.now ∷ string_bytes log.now ∷ []) given place
+        (string_bytes option.now) (texts words.now) result }
     ensures room { IfOk result (λ r. IsTrue r.1 → 0 < length words.now) }
-    ensures dump { IfOk result (λ r. IsBelow (place + 1 + length words.now) given.dump → IsBelow (place + 1 + length words.now) r.0.dump) }
+    ensures dump { IfOk result (λ r. IsBelow (place + 1 + length words.now) given.dump
+        → IsBelow (place + 1 + length words.now) r.0.dump) }
     ensures ranges { IfOk result (λ r. AreInRange given → AreInRange r.0) }
 {
     match option.as_str() {
@@ -64,7 +66,9 @@ fn record_option(
 }
 
 fn record_options(words: &[String], image: &String, log: &String) -> Result<RecordOptions, Usage>
-    ensures reads { let names = string_bytes image.now ∷ string_bytes log.now ∷ [] in MatchResult result (λ given. options record_option names (AnOption no_record_option) 3 (texts words.now) ≡ Ok given) (λ u. options record_option names (AnOption no_record_option) 3 (texts words.now) ≡ Err u.place) }
+    ensures reads { Reads
+        (options record_option (string_bytes image.now ∷ string_bytes log.now ∷ []) (AnOption no_record_option) 3
+        (texts words.now)) result }
     ensures dump { IfOk result (λ given. IsBelow (3 + length words.now) given.dump) }
     ensures ranges { IfOk result (λ given. AreInRange given) }
 {
@@ -89,7 +93,7 @@ fn record_options(words: &[String], image: &String, log: &String) -> Result<Reco
 
 /// The job of the words behind `record`.
 pub(crate) fn record_words(words: &[String]) -> Result<Job, Usage>
-    ensures reads { MatchResult result (λ job. record_of (texts words.now) ≡ Ok job) (λ u. record_of (texts words.now) ≡ Err u.place) }
+    ensures reads { Reads (record_of (texts words.now)) result }
     ensures places { IfOk result (ArePlaces (1 + length words.now)) }
     ensures ranges { IfOk result IsInRange }
 {

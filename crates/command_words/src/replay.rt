@@ -1,7 +1,7 @@
-ghost use Rattle.std.specs.Prelude.{◌≡◌, ◌+◌, ◌<◌, ◌^◌, IsTrue, [], ◌∷◌, length, string_bytes, MatchResult, IfOk, Ok, Err};
+ghost use Rattle.std.specs.Prelude.{◌≡◌, ◌+◌, ◌<◌, ◌^◌, IsTrue, [], ◌∷◌, length, string_bytes, IfOk, Ok, Err};
 ghost use Rattle.command_words.specs.Texts.{texts};
 ghost use Rattle.command_words.specs.Options.{options, AnOption};
-ghost use Rattle.command_words.specs.Behind.{words_behind, place_behind};
+ghost use Rattle.command_words.specs.Behind.{Reads, ReadsOption};
 ghost use Rattle.command_words.specs.Tables.{replay_option, no_replay_option};
 ghost use Rattle.command_words.specs.Grammar.{replay_of};
 ghost use Rattle.command_words.specs.Allowed.{IsBelow, ArePlaces, IsInRange};
@@ -27,9 +27,11 @@ fn replay_option(
     log: &String,
 ) -> Result<(ReplayOptions, bool), Usage>
     requires { place < 2 ^ 63 }
-    ensures reads { let names = string_bytes image.now ∷ string_bytes log.now ∷ [] in let before = options replay_option names (AnOption given) place (string_bytes option.now ∷ texts words.now) in MatchResult result (λ r. before ≡ options replay_option names (AnOption r.0) (place_behind r.1 place) (words_behind r.1 (texts words.now))) (λ u. before ≡ Err u.place) }
+    ensures reads { ReadsOption replay_option (string_bytes image.now ∷ string_bytes log.now ∷ []) given place
+        (string_bytes option.now) (texts words.now) result }
     ensures room { IfOk result (λ r. IsTrue r.1 → 0 < length words.now) }
-    ensures dump { IfOk result (λ r. IsBelow (place + 1 + length words.now) given.dump → IsBelow (place + 1 + length words.now) r.0.dump) }
+    ensures dump { IfOk result (λ r. IsBelow (place + 1 + length words.now) given.dump
+        → IsBelow (place + 1 + length words.now) r.0.dump) }
 {
     match option.as_str() {
         "--dump" => {
@@ -61,7 +63,9 @@ fn replay_option(
 }
 
 fn replay_options(words: &[String], image: &String, log: &String) -> Result<ReplayOptions, Usage>
-    ensures reads { let names = string_bytes image.now ∷ string_bytes log.now ∷ [] in MatchResult result (λ given. options replay_option names (AnOption no_replay_option) 3 (texts words.now) ≡ Ok given) (λ u. options replay_option names (AnOption no_replay_option) 3 (texts words.now) ≡ Err u.place) }
+    ensures reads { Reads
+        (options replay_option (string_bytes image.now ∷ string_bytes log.now ∷ []) (AnOption no_replay_option) 3
+        (texts words.now)) result }
     ensures dump { IfOk result (λ given. IsBelow (3 + length words.now) given.dump) }
 {
     let mut given = ReplayOptions {
@@ -81,7 +85,7 @@ fn replay_options(words: &[String], image: &String, log: &String) -> Result<Repl
 
 /// The job of the words behind `replay`.
 pub(crate) fn replay_words(words: &[String]) -> Result<Job, Usage>
-    ensures reads { MatchResult result (λ job. replay_of (texts words.now) ≡ Ok job) (λ u. replay_of (texts words.now) ≡ Err u.place) }
+    ensures reads { Reads (replay_of (texts words.now)) result }
     ensures places { IfOk result (ArePlaces (1 + length words.now)) }
     ensures ranges { IfOk result IsInRange }
 {

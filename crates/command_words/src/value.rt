@@ -1,6 +1,6 @@
-ghost use Rattle.std.specs.Prelude.{◌≡◌, ◌+◌, ◌<◌, ◌≤◌, ◌^◌, [], ◌∷◌, length, string_bytes, MatchResult, IfOk, Ok, Err};
+ghost use Rattle.std.specs.Prelude.{◌≡◌, ◌+◌, ◌<◌, ◌≤◌, ◌^◌, [], ◌∷◌, length, string_bytes, IfOk, Ok, Err};
 ghost use Rattle.command_words.specs.Texts.{texts};
-ghost use Rattle.command_words.specs.Behind.{number_behind, name_behind};
+ghost use Rattle.command_words.specs.Behind.{number_behind, name_behind, Reads};
 
 use crate::Usage;
 use crate::word::{is_third_name, number_in};
@@ -14,7 +14,7 @@ pub(crate) fn number_behind(
     greatest: u64,
 ) -> Result<u64, Usage>
     requires { place < 2 ^ 63 }
-    ensures value { MatchResult result (λ n. number_behind again place (texts words.now) least greatest ≡ Ok n) (λ u. number_behind again place (texts words.now) least greatest ≡ Err u.place) }
+    ensures value { Reads (number_behind again place (texts words.now) least greatest) result }
     ensures range { IfOk result (λ n. (least ≤ n) × (n ≤ greatest)) }
 {
     if again {
@@ -38,7 +38,8 @@ pub(crate) fn name_behind(
     log: &String,
 ) -> Result<u64, Usage>
     requires { place < 2 ^ 63 }
-    ensures value { MatchResult result (λ n. name_behind again place (texts words.now) (string_bytes image.now ∷ string_bytes log.now ∷ []) ≡ Ok n) (λ u. name_behind again place (texts words.now) (string_bytes image.now ∷ string_bytes log.now ∷ []) ≡ Err u.place) }
+    ensures value { Reads
+        (name_behind again place (texts words.now) (string_bytes image.now ∷ string_bytes log.now ∷ [])) result }
     ensures there { IfOk result (λ n. n < place + 1 + length words.now) }
 {
     if again {

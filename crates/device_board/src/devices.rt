@@ -225,7 +225,8 @@ impl Devices {
     fn touch_word(&mut self, word: DeviceWord, store: Option<u32>, input: Input) -> Option<u32>
         requires hart { IsOfHart self.old.devices.harts word }
         requires room { IsTrue (sends word store) → 0 < self.old.spare }
-        ensures devices { MadeAgain (word_touched self.old.devices word store input) self.old.devices self.new.devices result }
+        ensures devices { MadeAgain (word_touched self.old.devices word store input)
+            self.old.devices self.new.devices result }
         ensures harts { self.new.devices.harts ≡ self.old.devices.harts }
         ensures room { RoomIsKept self.old self.new }
     {
@@ -266,12 +267,14 @@ impl Devices {
     ) -> Result<Touched, ConsoleFailed>
         requires word { IsSome (device_word self.old.devices.harts access.at) }
         requires room { HasRoom self.old access }
-        ensures devices { IfOk result (λ t. touched self.old.devices access t.input ≡ Some (self.new.devices, t.loaded)) }
+        ensures devices { IfOk result
+            (λ t. touched self.old.devices access t.input ≡ Some (self.new.devices, t.loaded)) }
         ensures harts { self.new.devices.harts ≡ self.old.devices.harts }
         ensures room { RoomIsKept self.old self.new }
 
         // Its input, and the answer of the console that it took.
-        ensures input { IfOk result (λ t. AccessHas self.old.devices access now (C.seen console.old) (C.seen console.new) t.input) }
+        ensures input { IfOk result
+            (λ t. AccessHas self.old.devices access now (C.seen console.old) (C.seen console.new) t.input) }
         ensures given { OnOk result (AccessGives self.old.devices access (C.seen console.old) (C.seen console.new)) }
         ensures alone { IfSome (device_word self.old.devices.harts access.at)
             (λ word. uses_console word access.store ≡ false → console.new ≡ console.old) }

@@ -54,7 +54,8 @@ rows_named (r ∷ rs) t h n =
     let k = length-drop (r.name + r.bytes) t in
     let d : sizes rs ≡ length (drop (r.name + r.bytes) t) = omega arith in
     let other = absent_head [] (take r.name t) (take r.bytes (drop r.name t)) (files rs (drop (r.name + r.bytes) t)) n in
-    let rest = rows_named rs (drop (r.name + r.bytes) t) d (absent_rest [] (take r.name t) (take r.bytes (drop r.name t)) (files rs (drop (r.name + r.bytes) t)) n) in
+    let rest = rows_named rs (drop (r.name + r.bytes) t) d
+    (absent_rest [] (take r.name t) (take r.bytes (drop r.name t)) (files rs (drop (r.name + r.bytes) t)) n) in
     let one : 0 < r.name = positive r.name (λ e. other (ap (λ i. take i t) e)) in
     omega arith
   where
@@ -110,8 +111,10 @@ closed_behind heads from to row r closed more =
     ∙ closed (take (to - from) (drop from heads) ++ more)
     ∙ ap (λ rs. rows (take from heads) ++ rs) (r.opens more)
 
-pub split_at : (name : List ℕ) (fore aft : List Row) (text : List ℕ) (at : ℕ) (row : Row) → at ≡ sizes fore → at + (row.name + row.bytes) ≤ length text → take row.name (drop at text) ≡ name →
-    files (fore ++ row ∷ aft) text ≡ files fore (take at text) ++ (name, take row.bytes (drop row.name (drop at text))) ∷ files aft (drop (at + (row.name + row.bytes)) text)
+pub split_at : (name : List ℕ) (fore aft : List Row) (text : List ℕ) (at : ℕ) (row : Row) → at ≡ sizes fore → at + (row.name + row.bytes) ≤ length text
+    → take row.name (drop at text) ≡ name →
+    files (fore ++ row ∷ aft) text
+    ≡ files fore (take at text) ++ (name, take row.bytes (drop row.name (drop at text))) ∷ files aft (drop (at + (row.name + row.bytes)) text)
 split_at name fore aft text at row before fits named =
     let short : at ≤ length text = omega arith in
     let size : sizes fore ≡ length (take at text) = sym before ∙ sym (length-take-le at text short) in
@@ -120,8 +123,10 @@ split_at name fore aft text at row before fits named =
     ∙ ap (λ n. files fore (take at text) ++ (n, take row.bytes (drop row.name (drop at text))) ∷ files aft (drop (row.name + row.bytes) (drop at text))) named
     ∙ ap (λ t. files fore (take at text) ++ (name, take row.bytes (drop row.name (drop at text))) ∷ files aft t) (drop-drop (row.name + row.bytes) at text)
 
-pub files_removed : (name : List ℕ) (fore aft : List Row) (text : List ℕ) (at : ℕ) (row : Row) → at ≡ sizes fore → at + (row.name + row.bytes) ≤ length text → take row.name (drop at text) ≡ name →
-    AreApart (files (fore ++ row ∷ aft) text) → files (fore ++ aft) (take at text ++ drop (at + (row.name + row.bytes)) text) ≡ without name (files (fore ++ row ∷ aft) text)
+pub files_removed : (name : List ℕ) (fore aft : List Row) (text : List ℕ) (at : ℕ) (row : Row) → at ≡ sizes fore → at + (row.name + row.bytes) ≤ length text
+    → take row.name (drop at text) ≡ name →
+    AreApart (files (fore ++ row ∷ aft) text)
+    → files (fore ++ aft) (take at text ++ drop (at + (row.name + row.bytes)) text) ≡ without name (files (fore ++ row ∷ aft) text)
 files_removed name fore aft text at row before fits named apart =
     let short : at ≤ length text = omega arith in
     let size : sizes fore ≡ length (take at text) = sym before ∙ sym (length-take-le at text short) in
@@ -134,7 +139,8 @@ files_removed name fore aft text at row before fits named apart =
     ∙ sym (without_middle name b fs gs here)
     ∙ ap (without name) (sym split)
 
-pub sizes_removed : (fore aft : List Row) (text : List ℕ) (at : ℕ) (row : Row) → at ≡ sizes fore → at + (row.name + row.bytes) ≤ length text → sizes (fore ++ row ∷ aft) ≡ length text →
+pub sizes_removed : (fore aft : List Row) (text : List ℕ) (at : ℕ) (row : Row) → at ≡ sizes fore → at + (row.name + row.bytes) ≤ length text
+    → sizes (fore ++ row ∷ aft) ≡ length text →
     sizes (fore ++ aft) ≡ length (take at text ++ drop (at + (row.name + row.bytes)) text)
 sizes_removed fore aft text at row before fits sized =
     let short : at ≤ length text = omega arith in
@@ -156,8 +162,10 @@ pub cut_rows : (name : List ℕ) (heads : List Head) (text : List ℕ) (from to 
     rows (take from heads ++ drop to heads) ≡ rows (take from heads) ++ rows (drop to heads)
 cut_rows name heads text from to at row p = p.closed (drop to heads)
 
-pub removed_files : (name : List ℕ) (heads : List Head) (text : List ℕ) (from to at : ℕ) (row : Row) (hs : List Head) (t : List ℕ) → IsPlace name heads text from to at row → AreApart (files (rows heads) text) →
-    hs ≡ take from heads ++ drop to heads → t ≡ take at text ++ drop (at + (row.name + row.bytes)) text → files (rows hs) t ≡ without name (files (rows heads) text)
+pub removed_files : (name : List ℕ) (heads : List Head) (text : List ℕ) (from to at : ℕ) (row : Row) (hs : List Head) (t : List ℕ)
+    → IsPlace name heads text from to at row → AreApart (files (rows heads) text) →
+    hs ≡ take from heads ++ drop to heads → t ≡ take at text ++ drop (at + (row.name + row.bytes)) text
+    → files (rows hs) t ≡ without name (files (rows heads) text)
 removed_files name heads text from to at row hs t p apart eh et =
     let fore = rows (take from heads) in
     let aft = rows (drop to heads) in
@@ -169,7 +177,8 @@ removed_files name heads text from to at row hs t p apart eh et =
     ∙ files_removed name fore aft text at row p.before p.fits p.named here
     ∙ ap (λ rs. without name (files rs text)) (sym split)
 
-pub removed_sizes : (name : List ℕ) (heads : List Head) (text : List ℕ) (from to at : ℕ) (row : Row) (hs : List Head) (t : List ℕ) → IsPlace name heads text from to at row → sizes (rows heads) ≡ length text →
+pub removed_sizes : (name : List ℕ) (heads : List Head) (text : List ℕ) (from to at : ℕ) (row : Row) (hs : List Head) (t : List ℕ)
+    → IsPlace name heads text from to at row → sizes (rows heads) ≡ length text →
     hs ≡ take from heads ++ drop to heads → t ≡ take at text ++ drop (at + (row.name + row.bytes)) text → sizes (rows hs) ≡ length t
 removed_sizes name heads text from to at row hs t p sized eh et =
     let fore = rows (take from heads) in
@@ -190,8 +199,10 @@ cut_closed name heads text from to at row p closed =
     ap rows (sym (append_assoc (take to heads) (drop to heads) zero) ∙ ap (λ hs. hs ++ zero) (take-append-drop to heads))
     ∙ closed_append heads closed zero
     ∙ ap (λ rs. rs ++ rows zero) (place_rows name heads text from to at row p) in
-    let both : fore ++ (row ∷ rows (drop to heads ++ zero)) ≡ fore ++ (row ∷ (aft ++ rows zero)) = sym behind ∙ whole ∙ append_assoc fore (row ∷ aft) (rows zero) in
-    let same : rows (drop to heads ++ zero) ≡ aft ++ rows zero = ap rest_of (append_cancel_left fore (row ∷ rows (drop to heads ++ zero)) (row ∷ (aft ++ rows zero)) both) in
+    let both : fore ++ (row ∷ rows (drop to heads ++ zero)) ≡ fore ++ (row ∷ (aft ++ rows zero)) =
+    sym behind ∙ whole ∙ append_assoc fore (row ∷ aft) (rows zero) in
+    let same : rows (drop to heads ++ zero) ≡ aft ++ rows zero =
+    ap rest_of (append_cancel_left fore (row ∷ rows (drop to heads ++ zero)) (row ∷ (aft ++ rows zero)) both) in
     ap rows (append_assoc (take from heads) (drop to heads) zero)
     ∙ p.closed (drop to heads ++ zero)
     ∙ ap (λ rs. fore ++ rs) same
@@ -202,7 +213,8 @@ cut_closed name heads text from to at row p closed =
     rest_of [] = []
     rest_of (q ∷ rs) = rs
 
-pub files_added : (name bytes : List ℕ) (rows : List Row) (text : List ℕ) (row : Row) → row.name ≡ length name → row.bytes ≡ length bytes → sizes rows ≡ length text →
+pub files_added : (name bytes : List ℕ) (rows : List Row) (text : List ℕ) (row : Row) → row.name ≡ length name → row.bytes ≡ length bytes
+    → sizes rows ≡ length text →
     files (rows ++ row ∷ []) ((text ++ name) ++ bytes) ≡ files rows text ++ (name, bytes) ∷ []
 files_added name bytes rows text row n b sized =
     ap (files (rows ++ row ∷ [])) (append_assoc text name bytes)
@@ -213,7 +225,8 @@ files_added name bytes rows text row n b sized =
     ∙ ap (λ t. files rows text ++ (name, take (length bytes) t) ∷ []) (drop-append_seam name bytes)
     ∙ ap (λ t. files rows text ++ (name, t) ∷ []) (take-length bytes)
 
-pub sizes_added : (name bytes : List ℕ) (rows : List Row) (text : List ℕ) (row : Row) → row.name ≡ length name → row.bytes ≡ length bytes → sizes rows ≡ length text →
+pub sizes_added : (name bytes : List ℕ) (rows : List Row) (text : List ℕ) (row : Row) → row.name ≡ length name → row.bytes ≡ length bytes
+    → sizes rows ≡ length text →
     sizes (rows ++ row ∷ []) ≡ length ((text ++ name) ++ bytes)
 sizes_added name bytes rows text row n b sized =
     let parts = sizes_append rows (row ∷ []) in
@@ -236,7 +249,8 @@ pub record IsSought (name : List ℕ) (heads : List Head) (text : List ℕ) (fro
   pub before : at ≡ sizes (rows (take from heads))
   pub rest : lookup name (files (rows (drop from heads)) (drop at text)) ≡ lookup name (files (rows heads) text)
 
-pub sought_fits : (name : List ℕ) (heads : List Head) (text : List ℕ) (from at to : ℕ) (row : Row) → IsSought name heads text from at → IsRow heads from to row → sizes (rows heads) ≡ length text →
+pub sought_fits : (name : List ℕ) (heads : List Head) (text : List ℕ) (from at to : ℕ) (row : Row) → IsSought name heads text from at
+    → IsRow heads from to row → sizes (rows heads) ≡ length text →
     at + (row.name + row.bytes) ≤ length text
 sought_fits name heads text from at to row s r sized =
     let before = s.before in
@@ -245,13 +259,16 @@ sought_fits name heads text from at to row s r sized =
     omega arith
 
 opened : (name : List ℕ) (heads : List Head) (text : List ℕ) (from at to : ℕ) (row : Row) → IsRow heads from to row →
-    files (rows (drop from heads)) (drop at text) ≡ (take row.name (drop at text), take row.bytes (drop row.name (drop at text))) ∷ files (rows (drop to heads)) (drop (at + (row.name + row.bytes)) text)
+    files (rows (drop from heads)) (drop at text)
+    ≡ (take row.name (drop at text), take row.bytes (drop row.name (drop at text))) ∷ files (rows (drop to heads)) (drop (at + (row.name + row.bytes)) text)
 opened name heads text from at to row r =
     ap (λ rs. files rs (drop at text)) (rows_split heads from to row r)
-    ∙ ap (λ t. (take row.name (drop at text), take row.bytes (drop row.name (drop at text))) ∷ files (rows (drop to heads)) t) (drop-drop (row.name + row.bytes) at text)
+    ∙ ap (λ t. (take row.name (drop at text), take row.bytes (drop row.name (drop at text))) ∷ files (rows (drop to heads)) t)
+    (drop-drop (row.name + row.bytes) at text)
 
 -- a row whose name was found equal is the place of that name
-pub place_here : (name : List ℕ) (heads : List Head) (text : List ℕ) (from at to : ℕ) (row : Row) (r : Bool) → IsSought name heads text from at → IsRow heads from to row → sizes (rows heads) ≡ length text →
+pub place_here : (name : List ℕ) (heads : List Head) (text : List ℕ) (from at to : ℕ) (row : Row) (r : Bool) → IsSought name heads text from at
+    → IsRow heads from to row → sizes (rows heads) ≡ length text →
     r ≡ bytes_eq (take (at + row.name - at) (drop at text)) name → r ≡ true → IsPlace name heads text from to at row
 place_here name heads text from at to row r s i sized test t =
     let is_name = (named name text at row.name r test).0 t in
@@ -262,11 +279,13 @@ place_here name heads text from at to row r s i sized test t =
       fits = sought_fits name heads text from at to row s i sized;
       named = is_name;
       found = sym s.rest ∙ ap (lookup name) (opened name heads text from at to row i)
-          ∙ lookup_hit name (take row.name (drop at text)) (take row.bytes (drop row.name (drop at text))) (files (rows (drop to heads)) (drop (at + (row.name + row.bytes)) text)) is_name;
+          ∙ lookup_hit name (take row.name (drop at text)) (take row.bytes (drop row.name (drop at text)))
+          (files (rows (drop to heads)) (drop (at + (row.name + row.bytes)) text)) is_name;
     }
 
 -- a row whose name was found other leaves the search to those after it
-pub not_here : (name : List ℕ) (heads : List Head) (text : List ℕ) (from at to : ℕ) (row : Row) (r : Bool) → IsSought name heads text from at → IsRow heads from to row →
+pub not_here : (name : List ℕ) (heads : List Head) (text : List ℕ) (from at to : ℕ) (row : Row) (r : Bool) → IsSought name heads text from at
+    → IsRow heads from to row →
     r ≡ bytes_eq (take (at + row.name - at) (drop at text)) name → r ≡ false → IsSought name heads text to (at + row.name + row.bytes)
 not_here name heads text from at to row r s i test f =
     let other : take row.name (drop at text) ≢ name = λ e. let t = (named name text at row.name r test).1 e in cc in
@@ -281,11 +300,14 @@ not_here name heads text from at to row r s i test f =
       closed = λ more. behind more ∙ sym (append_assoc (rows (take from heads)) (row ∷ []) (rows more)) ∙ ap (λ rs. rs ++ rows more) (sym up_to);
       before = omega arith;
       rest = ap (λ k. lookup name (files (rows (drop to heads)) (drop k text))) (sym sum)
-          ∙ sym (ap (lookup name) (opened name heads text from at to row i) ∙ lookup_miss name (take row.name (drop at text)) (take row.bytes (drop row.name (drop at text))) (files (rows (drop to heads)) (drop (at + (row.name + row.bytes)) text)) other)
+          ∙ sym (ap (lookup name) (opened name heads text from at to row i)
+          ∙ lookup_miss name (take row.name (drop at text)) (take row.bytes (drop row.name (drop at text)))
+          (files (rows (drop to heads)) (drop (at + (row.name + row.bytes)) text)) other)
           ∙ s.rest;
     }
 
-pub apart_row : (name bytes : List ℕ) (rows : List Row) (text : List ℕ) (row : Row) → row.name ≡ length name → row.bytes ≡ length bytes → sizes rows ≡ length text →
+pub apart_row : (name bytes : List ℕ) (rows : List Row) (text : List ℕ) (row : Row) → row.name ≡ length name → row.bytes ≡ length bytes
+    → sizes rows ≡ length text →
     AreApart (files rows text) → lookup name (files rows text) ≡ None → AreApart (files (rows ++ row ∷ []) ((text ++ name) ++ bytes))
 apart_row name bytes rows text row n b sized apart absent =
     subst AreApart (sym (files_added name bytes rows text row n b sized)) (apart_added name bytes (files rows text) absent apart)
@@ -304,7 +326,8 @@ room_for_row name bytes rows text room sized apart absent fits =
     omega arith
 
 -- what a place has is what the file takes
-pub size_here : (name : List ℕ) (heads : List Head) (text : List ℕ) (from to at : ℕ) (row : Row) → IsPlace name heads text from to at row → AreApart (files (rows heads) text) →
+pub size_here : (name : List ℕ) (heads : List Head) (text : List ℕ) (from to at : ℕ) (row : Row) → IsPlace name heads text from to at row
+    → AreApart (files (rows heads) text) →
     total (without name (files (rows heads) text)) + (row.name + row.bytes) ≡ total (files (rows heads) text)
 size_here name heads text from to at row p apart =
     let fits = p.fits in
@@ -318,13 +341,15 @@ size_here name heads text from to at row p apart =
     let t = total_without name (take row.bytes (drop row.name (drop at text))) (files (rows heads) text) apart p.found in
     omega arith
 
-pub size_absent : (name : List ℕ) (rows : List Row) (text : List ℕ) → lookup name (files rows text) ≡ None → total (without name (files rows text)) + 0 ≡ total (files rows text)
+pub size_absent : (name : List ℕ) (rows : List Row) (text : List ℕ) → lookup name (files rows text) ≡ None
+    → total (without name (files rows text)) + 0 ≡ total (files rows text)
 size_absent name rows text absent =
     let t = ap total (without_absent name (files rows text) absent) in
     omega arith
 
 -- there is room for the heads of one more row
-pub room_for_heads : (name bytes : List ℕ) (heads : List Head) (text : List ℕ) (room : ℕ) → sizes (rows heads) ≡ length text → AreApart (files (rows heads) text) → IsClosed heads →
+pub room_for_heads : (name bytes : List ℕ) (heads : List Head) (text : List ℕ) (room : ℕ) → sizes (rows heads) ≡ length text
+    → AreApart (files (rows heads) text) → IsClosed heads →
     lookup name (files (rows heads) text) ≡ None → total (files (rows heads) text) + (length name + length bytes) ≤ room →
     255 * (length heads + 1) + (length name + length bytes) ≤ 255 * (room + 1) + room
 room_for_heads name bytes heads text room sized apart closed absent fits =

@@ -28,7 +28,8 @@ rest_of [] = []
 rest_of (q ∷ rs) = rs
 
 -- what is closed tells its rows before whatever follows
-closed_from : (n b : ℕ) (hs : List Head) → rows_after n b (hs ++ zero_head ∷ []) ≡ rows_after n b hs ++ zero_row ∷ [] → (more : List Head) → rows_after n b (hs ++ more) ≡ rows_after n b hs ++ rows more
+closed_from : (n b : ℕ) (hs : List Head) → rows_after n b (hs ++ zero_head ∷ []) ≡ rows_after n b hs ++ zero_row ∷ [] → (more : List Head)
+    → rows_after n b (hs ++ more) ≡ rows_after n b hs ++ rows more
 closed_from n b [] e more =
     let row : Row = record { name = n + 0; bytes = b + 0 } in
     let same : row ≡ zero_row = ap (first_of zero_row) e in
@@ -41,7 +42,8 @@ closed_from n b (h ∷ hs) e more =
     elim (cases_Bool (goes_on h)) [
       | inl t ↦
           on_true n b h (hs ++ more) t
-          ∙ closed_from (n + h.name) (b + h.bytes) hs (sym (on_true n b h (hs ++ zero_head ∷ []) t) ∙ e ∙ ap (λ rs. rs ++ zero_row ∷ []) (on_true n b h hs t)) more
+          ∙ closed_from (n + h.name) (b + h.bytes) hs
+          (sym (on_true n b h (hs ++ zero_head ∷ []) t) ∙ e ∙ ap (λ rs. rs ++ zero_row ∷ []) (on_true n b h hs t)) more
           ∙ ap (λ rs. rs ++ rows more) (sym (on_true n b h hs t))
       | inr f ↦
           on_false n b h (hs ++ more) f
@@ -74,11 +76,13 @@ length_from n b [] e =
 length_from n b (h ∷ hs) e =
     elim (cases_Bool (goes_on h)) [
       | inl t ↦
-          let rest = length_from (n + h.name) (b + h.bytes) hs (sym (on_true n b h (hs ++ zero_head ∷ []) t) ∙ e ∙ ap (λ rs. rs ++ zero_row ∷ []) (on_true n b h hs t)) in
+          let rest = length_from (n + h.name) (b + h.bytes) hs
+          (sym (on_true n b h (hs ++ zero_head ∷ []) t) ∙ e ∙ ap (λ rs. rs ++ zero_row ∷ []) (on_true n b h hs t)) in
           let full = full_part h t in
           rw (on_true n b h hs t) (omega arith)
       | inr f ↦
-          let rest = length_from 0 0 hs (ap rest_of (sym (on_false n b h (hs ++ zero_head ∷ []) f) ∙ e ∙ ap (λ rs. rs ++ zero_row ∷ []) (on_false n b h hs f))) in
+          let rest = length_from 0 0 hs
+          (ap rest_of (sym (on_false n b h (hs ++ zero_head ∷ []) f) ∙ e ∙ ap (λ rs. rs ++ zero_row ∷ []) (on_false n b h hs f))) in
           rw (on_false n b h hs f) (omega arith)
     ]
 

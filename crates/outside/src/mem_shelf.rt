@@ -112,7 +112,8 @@ impl Shelf for MemShelf {
         ensures within { IfOk result (λ v. length v.items ≤ most) }
         ensures listed { IsTrue (fails_next self.old.calls) → result ≡ Err FetchError.Failed }
         ensures absent { lookup name.now self.old.files ≡ None → result ≡ Err FetchError.Failed }
-        ensures failed { result ≡ Err FetchError.Failed → GoesThrough self.old.calls → lookup name.now self.old.files ≡ None }
+        ensures failed { result ≡ Err FetchError.Failed → GoesThrough self.old.calls
+            → lookup name.now self.old.files ≡ None }
         ensures long { result ≡ Err FetchError.TooLong → IsPast most (lookup name.now self.old.files) }
         ensures past { IsPast most (lookup name.now self.old.files) → GoesThrough self.old.calls
             → result ≡ Err FetchError.TooLong }
@@ -175,7 +176,8 @@ impl Shelf for MemShelf {
         ensures exact { is_ok result ≡ not (fails_next self.old.calls) }
         ensures files { IfSome self.old.draft (λ d. self.new.files ≡ files_with (is_ok result) d.0 d.1 self.old.files) }
         ensures kept { OnOk result (IfSome self.old.draft (λ d. lookup d.0 self.new.files ≡ Some d.1)) }
-        ensures others { IfSome self.old.draft (λ d. (n : List ℕ) → n ≢ d.0 → lookup n self.new.files ≡ lookup n self.old.files) }
+        ensures others { IfSome self.old.draft
+            (λ d. (n : List ℕ) → n ≢ d.0 → lookup n self.new.files ≡ lookup n self.old.files) }
         ensures draft { self.new.draft ≡ None }
         ensures room { self.new.room ≡ self.old.room }
         ensures calls { self.new.calls ≡ after_call self.old.calls (not (is_ok result)) }

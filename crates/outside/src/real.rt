@@ -46,7 +46,8 @@ fn read_byte<R: Read>(input: &mut R) -> Result<Asked, Failed>
 }
 
 impl<R: Read + Send + Drop, W: Write + Send + Drop> Console for StdConsole<R, W> {
-    ghost seen = { λ c. record { tells_answers = false; answers = []; tells_taken = false; taken = []; faults = c.faults } };
+    ghost seen = { λ c.
+        record { tells_answers = false; answers = []; tells_taken = false; taken = []; faults = c.faults } };
 
     fn poll(&mut self) -> Result<Asked, Failed>
         ensures waits { IfOk result (λ asked. asked ≢ Asked.Nothing) }

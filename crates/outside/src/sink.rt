@@ -63,7 +63,8 @@ impl Sink for MemSink {
 
     fn put(&mut self, bytes: &[u8]) -> Result<(), Failed>
         ensures exact { is_ok result ≡ writes self.old bytes.now }
-        ensures written { self.new.written ≡ (if is_ok result then self.old.written ++ bytes.now else self.old.written) }
+        ensures written { self.new.written
+            ≡ (if is_ok result then self.old.written ++ bytes.now else self.old.written) }
         ensures part { OnErr result (WritesPart bytes.now (seen_of_sink self.old) (seen_of_sink self.new)) }
         ensures room { self.new.room ≡ self.old.room }
         ensures calls { self.new.calls ≡ after_call self.old.calls (not (is_ok result)) }

@@ -76,7 +76,8 @@ same : {X : Type 0} (xs : List X) → xs ≡ xs ++ []
 same xs = sym (append-nil xs)
 
 -- nothing was asked, and no entry has an input or a time
-pub asks_nothing : (o : Sources) (r s : Running) (made : List Entry) → s.stream ≡ r.stream ++ made → [] ≡ filter_map console_input made → [] ≡ filter_map time_of made → s.devices ≡ r.devices → Asks o o r s
+pub asks_nothing : (o : Sources) (r s : Running) (made : List Entry) → s.stream ≡ r.stream ++ made → [] ≡ filter_map console_input made
+    → [] ≡ filter_map time_of made → s.devices ≡ r.devices → Asks o o r s
 asks_nothing o r s made stream console clock devices = record {
   tells_answers = λ told. told;
   tells_taken = λ told. told;
@@ -151,13 +152,15 @@ record Left (d e : Devices) (w : DeviceWord) (store : Option ℕ) (now : ℕ) : 
 same_pair : (a b : Devices × ℕ) → ◌≡◌ {A = Option (Devices × ℕ)} (Some a) (Some b) → a ≡ b
 same_pair a b e = same_Some a b e
 
-untouched : (d e : Devices) (v l : ℕ) (w : DeviceWord) (store : Option ℕ) (now : ℕ) → bytes_given w store ≡ [] → times_taken w store now ≡ [] → ◌≡◌ {A = Option (Devices × ℕ)} (Some (d, v)) (Some (e, l)) → Left d e w store now
+untouched : (d e : Devices) (v l : ℕ) (w : DeviceWord) (store : Option ℕ) (now : ℕ) → bytes_given w store ≡ [] → times_taken w store now ≡ []
+    → ◌≡◌ {A = Option (Devices × ℕ)} (Some (d, v)) (Some (e, l)) → Left d e w store now
 untouched d e v l w store now none still is = record {
   sent = sym (ap (λ (z : Devices × ℕ). z.0.sent) (same_pair _ _ is)) ∙ same d.sent ∙ ap (λ x. d.sent ++ x) (sym none);
   time = sym (ap (λ (z : Devices × ℕ). z.0.mtime) (same_pair _ _ is)) ∙ ap (λ x. time_after d.mtime x) (sym still);
 }
 
-changed : (d : Devices) (f e : Devices) (l : ℕ) (w : DeviceWord) (store : Option ℕ) (now : ℕ) → f.sent ≡ d.sent ++ bytes_given w store → f.mtime ≡ time_after d.mtime (times_taken w store now) → ◌≡◌ {A = Option (Devices × ℕ)} (Some (f, 0)) (Some (e, l)) → Left d e w store now
+changed : (d : Devices) (f e : Devices) (l : ℕ) (w : DeviceWord) (store : Option ℕ) (now : ℕ) → f.sent ≡ d.sent ++ bytes_given w store
+    → f.mtime ≡ time_after d.mtime (times_taken w store now) → ◌≡◌ {A = Option (Devices × ℕ)} (Some (f, 0)) (Some (e, l)) → Left d e w store now
 changed d f e l w store now sent time is = record {
   sent = sym (ap (λ (z : Devices × ℕ). z.0.sent) (same_pair _ _ is)) ∙ sent;
   time = sym (ap (λ (z : Devices × ℕ). z.0.mtime) (same_pair _ _ is)) ∙ time;
@@ -167,7 +170,8 @@ chosen : {A : Type 0} (b : Bool) (v t : A) → (if b then Some v else None) ≡ 
 chosen true v t e = same_Some v t e
 chosen false v t e = absurd (none-some t e)
 
-at_time : (d e : Devices) (now half l : ℕ) (w : DeviceWord) → bytes_given w None ≡ [] → times_taken w None now ≡ now ∷ [] → timed d (max d.mtime now) half ≡ Some (e, l) → Left d e w None now
+at_time : (d e : Devices) (now half l : ℕ) (w : DeviceWord) → bytes_given w None ≡ [] → times_taken w None now ≡ now ∷ []
+    → timed d (max d.mtime now) half ≡ Some (e, l) → Left d e w None now
 at_time d e now half l w none asked is =
     let p : (with_time (max d.mtime now) d, half) ≡ (e, l) = chosen (nat_le d.mtime (max d.mtime now)) _ _ is in
     record {
@@ -175,7 +179,8 @@ at_time d e now half l w none asked is =
       time = sym (ap (λ (z : Devices × ℕ). z.0.mtime) p) ∙ max_comm d.mtime now ∙ ap (λ x. time_after d.mtime x) (sym asked);
     }
 
-left : (d e : Devices) (l : ℕ) (w : DeviceWord) (store : Option ℕ) (now : ℕ) (a : Asked) → word_touched d w store (recorded_input w store d.mtime now a) ≡ Some (e, l) → Left d e w store now
+left : (d e : Devices) (l : ℕ) (w : DeviceWord) (store : Option ℕ) (now : ℕ) (a : Asked)
+    → word_touched d w store (recorded_input w store d.mtime now a) ≡ Some (e, l) → Left d e w store now
 left d e l word.Rx None now (said.Byte b) is = untouched d e b l word.Rx None now refl refl is
 left d e l word.Rx None now said.Nothing is = untouched d e _ l word.Rx None now refl refl is
 left d e l word.Rx None now said.End is = untouched d e _ l word.Rx None now refl refl is
@@ -204,7 +209,8 @@ touch_asks o p r access input d spare touches made =
     let mtime = r.devices.mtime in
     let same_input = made.input in
     let l = left r.devices d.0 d.1 w store made.now made.answer
-    (ap (λ i. word_touched r.devices w store i) (sym same_input) ∙ sym (ap (λ x. option_and_then (λ w. word_touched r.devices w store input) x) made.is) ∙ touches) in
+    (ap (λ i. word_touched r.devices w store i) (sym same_input) ∙ sym (ap (λ x. option_and_then (λ w. word_touched r.devices w store input) x) made.is)
+    ∙ touches) in
     record {
       tells_answers = made.tells_answers;
       tells_taken = made.tells_taken;
@@ -214,7 +220,8 @@ touch_asks o p r access input d spare touches made =
         _ ∷ [],
         made.answers told,
         refl,
-        input_given w store mtime made.now r.run.count r.ordinal made.answer ∙ ap (λ i. filter_map console_input (entries.Touch r.run.count r.ordinal i ∷ [])) (sym same_input),
+        input_given w store mtime made.now r.run.count r.ordinal made.answer
+            ∙ ap (λ i. filter_map console_input (entries.Touch r.run.count r.ordinal i ∷ [])) (sym same_input),
       );
       took = λ told. (bytes_given w store, made.taken told, l.sent);
       timed = λ told. (
@@ -222,7 +229,8 @@ touch_asks o p r access input d spare touches made =
         _ ∷ [],
         made.times told,
         refl,
-        time_given w store mtime made.now r.run.count r.ordinal made.answer ∙ ap (λ i. filter_map time_of (entries.Touch r.run.count r.ordinal i ∷ [])) (sym same_input),
+        time_given w store mtime made.now r.run.count r.ordinal made.answer
+            ∙ ap (λ i. filter_map time_of (entries.Touch r.run.count r.ordinal i ∷ [])) (sym same_input),
         l.time,
       );
     }

@@ -30,13 +30,15 @@ use Rattle.recorder.specs.declared.solo.Ended.TheVariants as ended
 use Rattle.recorder.proofs.Soundness.{few_entries}
 use Rattle.recorder.proofs.Ending.{size_now}
 use Rattle.recorder.proofs.Ordinals.{told_in_order, no_input, no_time}
+use Rattle.recorder.specs.LoneRun.{unit}
 
 zero_at : (n p : ℕ) → slice_index (replicate n 0) p ≤ 0
 zero_at zero p = omega arith
 zero_at (suc n) zero = omega arith
 zero_at (suc n) (suc p) = zero_at n p
 
-pub first_sound : (image : Image) (limit log_limit : ℕ) → limit ≤ 1000000000000 → 1024 ≤ log_limit → log_limit ≤ 536870912 → IsRecorder (at_start image limit log_limit)
+pub first_sound : (image : Image) (limit log_limit : ℕ) → limit ≤ 1000000000000 → 1024 ≤ log_limit → log_limit ≤ 536870912
+    → IsRecorder (at_start image limit log_limit)
 first_sound image limit log_limit moves least most = record {
   device_harts = refl;
   numbers_size = length-replicate image.pages 0;
@@ -62,21 +64,25 @@ nobody_holds zero = refl
 nobody_holds (suc n) = ap (λ xs. (None ∷ []) ∷ xs) (nobody_holds n)
 
 first_is : (image : Image) (limit log_limit : ℕ) → recording_of (at_start image limit log_limit) ≡ first_recording image.pages (flat_at_start image 1)
-first_is image limit log_limit = ap (λ h. record { at = record (recording_of (at_start image limit log_limit)).at { holders = h }; stream = [] }) (nobody_holds image.pages)
+first_is image limit log_limit =
+    ap (λ h. record { at = record (recording_of (at_start image limit log_limit)).at { holders = h }; stream = [] }) (nobody_holds image.pages)
 
 and_all : (a b : Bool) → a ≡ true → b ≡ true → (a && b) ≡ true
 and_all a b x y = ap₂ (λ p q. p && q) x y
 
-in_its_range : (image : Image) (cause : Cause) (s : Running) → IsWhole image → IsRecorder s → s.run.pages ≡ image.pages → in_range (log_of_recording (board unit) s.limit image.pages (start_digest image) cause (recording_of s)) ≡ true
+in_its_range : (image : Image) (cause : Cause) (s : Running) → IsWhole image → IsRecorder s → s.run.pages ≡ image.pages
+    → in_range (log_of_recording (board unit) s.limit image.pages (start_digest image) cause (recording_of s)) ≡ true
 in_its_range image cause s whole sound pages =
     let moves = sound.most_moves in
     let few = few_entries s sound in
     let longer = length_push s.stream (entries.End s.run.count) in
-    and_all _ _ (and_all _ _ (and_all _ _ (and_all _ _ refl (le-leb 1 image.pages whole.least_pages)) (le-leb image.pages most_pages whole.most_pages)) (le-leb s.limit 1000000000000 moves))
+    and_all _ _ (and_all _ _ (and_all _ _ (and_all _ _ refl (le-leb 1 image.pages whole.least_pages)) (le-leb image.pages most_pages whole.most_pages))
+    (le-leb s.limit 1000000000000 moves))
     (and_all _ _
     (and_all _ _
     (lt-ltb (length (s.stream ++ entries.End s.run.count ∷ [])) 4294967296 (omega (arith, few, longer)))
-    (list_all-append (is_entry 1 image.pages) s.stream (entries.End s.run.count ∷ []) ∙ ap (λ b. b && true) (subst (λ p. list_all (is_entry 1 p) s.stream ≡ true) pages sound.entries)))
+    (list_all-append (is_entry 1 image.pages) s.stream (entries.End s.run.count ∷ [])
+    ∙ ap (λ b. b && true) (subst (λ p. list_all (is_entry 1 p) s.stream ≡ true) pages sound.entries)))
     refl)
 
 told_by : {Y : Type 0} (h : Entry → Option Y) → ((e : Entry) → ordinal_of e ≡ None → h e ≡ None) → (image : Image) (cause : Cause) (s : Running) → IsRecorder s
@@ -117,11 +123,19 @@ comes image limit log_limit o p s cause log final whole ends log_is final_is =
       };
       answered = record {
         answers = λ told.
-            let g = went.asks.gave told in
-            (g.0, g.2, g.4 ∙ ap (filter_map console_input) (sym g.3) ∙ sym (told_by console_input no_input image cause s went.sound) ∙ ap (λ l. filter_map console_input (by_ordinal l)) (sym log_is));
+            let g = went.asks.gave told in (
+              g.0,
+              g.2,
+              g.4 ∙ ap (filter_map console_input) (sym g.3) ∙ sym (told_by console_input no_input image cause s went.sound)
+                  ∙ ap (λ l. filter_map console_input (by_ordinal l)) (sym log_is),
+            );
         times = λ told.
-            let g = went.asks.timed told in
-            (g.0, g.2, g.4 ∙ ap (filter_map time_of) (sym g.3) ∙ sym (told_by time_of no_time image cause s went.sound) ∙ ap (λ l. filter_map time_of (by_ordinal l)) (sym log_is));
+            let g = went.asks.timed told in (
+              g.0,
+              g.2,
+              g.4 ∙ ap (filter_map time_of) (sym g.3) ∙ sym (told_by time_of no_time image cause s went.sound)
+                  ∙ ap (λ l. filter_map time_of (by_ordinal l)) (sym log_is),
+            );
         taken = λ told.
             let g = went.asks.took told in
             g.1 ∙ ap (λ x. o.console.taken ++ x) (sym g.2 ∙ sym (ap (λ x. x.sent) final_is));
@@ -129,7 +143,8 @@ comes image limit log_limit o p s cause log final whole ends log_is final_is =
       faults = subst (λ c. FaultsOf c o p) same_cause ends.2;
     }
 
-pub finished : {E : Type 0} (image : Image) (limit log_limit pages : ℕ) (digest : List ℕ) (o p : Sources) (r s : Running) (cause : Cause) (result : Result (Log × Final) E) → IsWhole image
+pub finished : {E : Type 0} (image : Image) (limit log_limit pages : ℕ) (digest : List ℕ) (o p : Sources) (r s : Running) (cause : Cause)
+    (result : Result (Log × Final) E) → IsWhole image
     → r ≡ at_start image limit log_limit → pages ≡ image.pages → digest ≡ start_digest image → EndsBy o p r s (ended.By cause)
     → IfOk result (λ x. x.0 ≡ log_of_recording (board unit) s.limit pages digest cause (recording_of s)) → IfOk result (λ x. x.1 ≡ final_of (flat_of s) cause)
     → IfOk result (λ x. Comes image limit log_limit o p x.0 x.1)

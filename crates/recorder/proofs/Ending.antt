@@ -15,8 +15,8 @@ use Rattle.order_rules.specs.Rules.{has_poll}
 use Rattle.shared_types.proofs.Lists.{none_there, find_place}
 use Rattle.replay_model.specs.State.{want}
 use Rattle.replay_model.specs.Board.{board}
-use Rattle.recorder.specs.LoneRun.{LoneRun, IsAtDevice, Leg, Pauses, want_of, lacks, deficit}
-use Rattle.recorder.specs.Running.{Running, IsRecorder, recording_of, Gains}
+use Rattle.recorder.specs.LoneRun.{LoneRun, IsAtDevice, Leg, Pauses, want_of, lacks, deficit, unit}
+use Rattle.recorder.specs.Running.{Running, IsRecorder, recording_of, Gains, gain_size, poll_size, touch_size}
 use Rattle.recorder.specs.Sources.{Sources, Asks, Refused}
 use Rattle.recorder.specs.declared.lone_run.Stepped.{Stepped}
 use Rattle.recorder.specs.declared.lone_run.Stepped.TheVariants as steps
@@ -31,6 +31,7 @@ use Rattle.recorder.specs.declared.solo.Ended.TheVariants as ended
 use Rattle.recorder.proofs.Stepping.{same_want}
 use Rattle.recorder.proofs.Held.{gains}
 use Rattle.recorder.proofs.Going.{went_nowhere, gain_went, poll_went, touch_went, leg_went}
+use Rattle.rv_words.specs.Limits.{poll_distance}
 
 -- the log of a sound recorder has the bytes that it says
 pub size_now : (r : Running) → IsRecorder r → size_at (recording_of r) ≡ r.size
@@ -46,7 +47,8 @@ not_polled false stream f = refl
 -- before the next Poll none is due
 pub early_not_due : (r : Running) → IsRecorder r → r.run.count < r.next_poll → is_due (recording_of r) ≡ false
 early_not_due r sound early =
-    not_polled (r.run.count % poll_distance == 0) (has_poll r.stream r.run.count) (λ e. sound.polls r.run.count (eqb-true (r.run.count % poll_distance) 0 e) early)
+    not_polled (r.run.count % poll_distance == 0) (has_poll r.stream r.run.count)
+    (λ e. sound.polls r.run.count (eqb-true (r.run.count % poll_distance) 0 e) early)
 
 -- at the next Poll it is due
 due_now : (r : Running) → IsRecorder r → r.run.count ≡ r.next_poll → is_due (recording_of r) ≡ true
@@ -62,30 +64,37 @@ due_now r sound due =
 goes_on : (r : Running) → r.devices.stop ≡ None → r.run.count < r.limit → GoesOn r.limit (recording_of r)
 goes_on r running below = record { running = ap is_some running; below = below }
 
-full : (o : Sources) (r : Running) (n : ℕ) → IsRecorder r → r.devices.stop ≡ None → r.run.count < r.limit → next_size (recording_of r) ≡ Some n → nat_le (r.size + n) r.log_limit ≡ false → EndsBy o o r r (ended.By causes.Full)
+full : (o : Sources) (r : Running) (n : ℕ) → IsRecorder r → r.devices.stop ≡ None → r.run.count < r.limit → next_size (recording_of r) ≡ Some n
+    → nat_le (r.size + n) r.log_limit ≡ false → EndsBy o o r r (ended.By causes.Full)
 full o r n sound running below next none =
     let size = size_now r sound in
     (went_nowhere o r sound, (goes_on r running below, (n, next, less size)), refl) where
       less : size_at (recording_of r) ≡ r.size → r.log_limit < size_at (recording_of r) + n
       less size = ⊎_elim (λ t. absurd (true≢false (sym t.0 ∙ none))) (λ f. let g = f.1 in omega (arith, g, size)) (leb_tells (r.size + n) r.log_limit)
 
-pub gain_full : (o : Sources) (r : Running) (page : ℕ) (mode : Mode) → IsGoing r → want_of r.run ≡ Some (page, mode) → nat_le (r.size + gain_size) r.log_limit ≡ false → EndsBy o o r r (ended.By causes.Full)
+pub gain_full : (o : Sources) (r : Running) (page : ℕ) (mode : Mode) → IsGoing r → want_of r.run ≡ Some (page, mode)
+    → nat_le (r.size + gain_size) r.log_limit ≡ false → EndsBy o o r r (ended.By causes.Full)
 gain_full o r page mode going wants none =
     full o r gain_size going.sound going.running going.below
-    (ap₂ (λ d w. if d then Some poll_size else if is_some w then Some gain_size else if (board unit).is_at_device (recording_of r).at.flat 0 then Some touch_size else None)
+    (ap₂ (λ d w. if d then Some poll_size else if is_some w then Some gain_size else if (board unit).is_at_device
+    (recording_of r).at.flat 0 then Some touch_size else None)
     (early_not_due r going.sound going.polled) (same_want r ∙ wants))
     none
 
-pub poll_full : (o : Sources) (r : Running) → IsRecorder r → r.devices.stop ≡ None → r.run.count < r.limit → r.run.count ≡ r.next_poll → nat_le (r.size + poll_size) r.log_limit ≡ false → EndsBy o o r r (ended.By causes.Full)
+pub poll_full : (o : Sources) (r : Running) → IsRecorder r → r.devices.stop ≡ None → r.run.count < r.limit → r.run.count ≡ r.next_poll
+    → nat_le (r.size + poll_size) r.log_limit ≡ false → EndsBy o o r r (ended.By causes.Full)
 poll_full o r sound running below due none =
     full o r poll_size sound running below
-    (ap (λ d. if d then Some poll_size else if is_some (want (board unit) (recording_of r).at 0) then Some gain_size else if (board unit).is_at_device (recording_of r).at.flat 0 then Some touch_size else None) (due_now r sound due))
+    (ap (λ d. if d then Some poll_size else if is_some (want (board unit) (recording_of r).at 0) then Some gain_size else if (board unit).is_at_device
+    (recording_of r).at.flat 0 then Some touch_size else None) (due_now r sound due))
     none
 
-pub touch_full : (o : Sources) (r : Running) (word : ℕ) (access : Access) → IsGoing r → IsAtDevice r.run word access → nat_le (r.size + touch_size) r.log_limit ≡ false → EndsBy o o r r (ended.By causes.Full)
+pub touch_full : (o : Sources) (r : Running) (word : ℕ) (access : Access) → IsGoing r → IsAtDevice r.run word access
+    → nat_le (r.size + touch_size) r.log_limit ≡ false → EndsBy o o r r (ended.By causes.Full)
 touch_full o r word access going device none =
     full o r touch_size going.sound going.running going.below
-    (ap₂ (λ d w. if d then Some poll_size else if is_some w then Some gain_size else if (board unit).is_at_device (recording_of r).at.flat 0 then Some touch_size else None)
+    (ap₂ (λ d w. if d then Some poll_size else if is_some w then Some gain_size else if (board unit).is_at_device
+    (recording_of r).at.flat 0 then Some touch_size else None)
     (early_not_due r going.sound going.polled) (same_want r ∙ device.held)
     ∙ ap (λ a. if is_some a then Some touch_size else None) device.access)
     none
@@ -96,7 +105,8 @@ room_of a b e = ⊎_elim (λ t. t.1) (λ f. absurd (true≢false (sym e ∙ f.0)
 wanted : (held : List (Option Mode)) (needed : List (ℕ × Mode)) (n : ℕ × Mode) → find (lacks held) needed ≡ Some n → lacks held n ≡ true
 wanted held needed n e = (find_place (lacks held) needed n e).2
 
-pub gain_to : (o : Sources) (r s : Running) (page : ℕ) (mode : Mode) (result : Result (Unit {0}) Ended) → IsGoing r → want_of r.run ≡ Some (page, mode) → page < r.run.pages → nat_le (r.size + gain_size) r.log_limit ≡ true
+pub gain_to : (o : Sources) (r s : Running) (page : ℕ) (mode : Mode) (result : Result (Unit {0}) Ended) → IsGoing r → want_of r.run ≡ Some (page, mode)
+    → page < r.run.pages → nat_le (r.size + gain_size) r.log_limit ≡ true
     → OnOk result (Gains r page mode s) → IfErr result (λ e. e ≡ ended.NoMemory) → GainsTo o result r s
 gain_to o r s page mode (Err e) going wants inside room gains none = subst (λ x. EndsBy o o r s x) (sym none) tt
 gain_to o r s page mode (Ok u) going wants inside room gained_so none =
@@ -114,7 +124,8 @@ gain_to o r s page mode (Ok u) going wants inside room gained_so none =
       subst (λ x. deficit x.run.held < deficit r.run.held) (sym gained_so.2) lower,
     )
 
-pub poll_to : (o p : Sources) (r s : Running) (result : Result (Unit {0}) Ended) → IsRecorder r → r.devices.stop ≡ None → r.run.count < r.limit → r.run.count ≡ r.next_poll → nat_le (r.size + poll_size) r.log_limit ≡ true
+pub poll_to : (o p : Sources) (r s : Running) (result : Result (Unit {0}) Ended) → IsRecorder r → r.devices.stop ≡ None → r.run.count < r.limit
+    → r.run.count ≡ r.next_poll → nat_le (r.size + poll_size) r.log_limit ≡ true
     → OnOk result (Polls o p r s) → IfErr result (λ e. e ≡ ended.NoMemory) → PollsTo o p result r s
 poll_to o p r s (Err e) sound running below due room polls none = subst (λ x. EndsBy o p r s x) (sym none) tt
 poll_to o p r s (Ok u) sound running below due room polls none =
@@ -132,7 +143,8 @@ poll_to o p r s (Ok u) sound running below due room polls none =
       count,
     )
 
-at_console : (r : Running) (word : ℕ) (access : Access) (o p : Sources) → IsGoing r → IsAtDevice r.run word access → Refused o p r.devices access → IsAtConsole (recording_of r)
+at_console : (r : Running) (word : ℕ) (access : Access) (o p : Sources) → IsGoing r → IsAtDevice r.run word access → Refused o p r.devices access
+    → IsAtConsole (recording_of r)
 at_console r word access o p going device refused = record {
   polled = early_not_due r going.sound going.polled;
   held = same_want r ∙ device.held;
@@ -148,7 +160,8 @@ refused_asks o p r s access refused is = record {
   tells_times = refused.tells_times;
   gave = λ told. ([], [], refused.answers told ∙ sym (append-nil o.console.answers), ap (λ x. x.stream) is ∙ sym (append-nil r.stream), refl);
   took = λ told. ([], refused.taken told ∙ sym (append-nil o.console.taken), ap (λ x. x.devices.sent) is ∙ sym (append-nil r.devices.sent));
-  timed = λ told. ([], [], refused.times told ∙ sym (append-nil o.clock.answers), ap (λ x. x.stream) is ∙ sym (append-nil r.stream), refl, ap (λ x. x.devices.mtime) is);
+  timed = λ told.
+      ([], [], refused.times told ∙ sym (append-nil o.clock.answers), ap (λ x. x.stream) is ∙ sym (append-nil r.stream), refl, ap (λ x. x.devices.mtime) is);
 }
 
 with_spare : (r : Running) (spare : ℕ) → IsRecorder r → IsRecorder (record r { spare = spare })
@@ -184,7 +197,8 @@ stayed o p r spare sound asks = record {
 }
 
 -- an access that the console refused ends the run with cause fault
-refused_ends : (o p : Sources) (r s : Running) (word : ℕ) (access : Access) → IsGoing r → IsAtDevice r.run word access → r.size + touch_size ≤ r.log_limit → Refused o p r.devices access → s ≡ record r { spare = s.spare } → EndsBy o p r s (ended.By causes.Fault)
+refused_ends : (o p : Sources) (r s : Running) (word : ℕ) (access : Access) → IsGoing r → IsAtDevice r.run word access → r.size + touch_size ≤ r.log_limit
+    → Refused o p r.devices access → s ≡ record r { spare = s.spare } → EndsBy o p r s (ended.By causes.Fault)
 refused_ends o p r s word access going device room refused is =
     let asks = subst (λ x. Asks o p r x) is (refused_asks o p r s access refused is) in
     let size = size_now r going.sound in
@@ -194,25 +208,30 @@ refused_ends o p r s word access going device room refused is =
       refused.rose,
     )
 
-pub touch_made : (o p : Sources) (r s : Running) (word : ℕ) (access : Access) (t : Touched) → IsGoing r → IsAtDevice r.run word access → nat_le (r.size + touch_size) r.log_limit ≡ true
+pub touch_made : (o p : Sources) (r s : Running) (word : ℕ) (access : Access) (t : Touched) → IsGoing r → IsAtDevice r.run word access
+    → nat_le (r.size + touch_size) r.log_limit ≡ true
     → Touches o p access (Ok t) r s → TurnsTo o p (Ok tt) r s
 touch_made o p r s word access t going device room touches =
     let up = ap (λ x. x.run.count) touches.3 in (
-      touch_went o p r s word access t.input (s.devices, t.loaded) going.sound going.running going.below going.polled (room_of _ _ room) device touches.0 touches.1 touches.2 touches.3,
+      touch_went o p r s word access t.input (s.devices, t.loaded) going.sound going.running going.below going.polled
+          (room_of _ _ room) device touches.0 touches.1 touches.2 touches.3,
       touches.1.faults,
       omega (arith, up),
     )
 
-pub touch_ends : (o p : Sources) (r s : Running) (word : ℕ) (access : Access) (e : Ended) → IsGoing r → IsAtDevice r.run word access → nat_le (r.size + touch_size) r.log_limit ≡ true
+pub touch_ends : (o p : Sources) (r s : Running) (word : ℕ) (access : Access) (e : Ended) → IsGoing r → IsAtDevice r.run word access
+    → nat_le (r.size + touch_size) r.log_limit ≡ true
     → Touches o p access (Err e) r s → EndsBy o p r s e
 touch_ends o p r s word access ended.NoMemory going device room touches = tt
-touch_ends o p r s word access (ended.By causes.Fault) going device room touches = refused_ends o p r s word access going device (room_of _ _ room) touches.0 touches.1
+touch_ends o p r s word access (ended.By causes.Fault) going device room touches =
+    refused_ends o p r s word access going device (room_of _ _ room) touches.0 touches.1
 touch_ends o p r s word access (ended.By causes.Stop) going device room touches = absurd touches
 touch_ends o p r s word access (ended.By causes.Limit) going device room touches = absurd touches
 touch_ends o p r s word access (ended.By causes.Full) going device room touches = absurd touches
 touch_ends o p r s word access (ended.By causes.Cut) going device room touches = absurd touches
 
-pub leg_to : (o : Sources) (r : Running) (s : LoneRun) (until : ℕ) (stepped : Stepped) → IsGoing r → until ≤ r.limit → until ≤ r.next_poll → Leg until r.run s stepped → s.held ≡ r.run.held → LegTo until o r (record r { run = s }) stepped
+pub leg_to : (o : Sources) (r : Running) (s : LoneRun) (until : ℕ) (stepped : Stepped) → IsGoing r → until ≤ r.limit → until ≤ r.next_poll
+    → Leg until r.run s stepped → s.held ≡ r.run.held → LegTo until o r (record r { run = s }) stepped
 leg_to o r s until stepped going less early leg held = record {
   went = leg_went o r s until leg.0 going.sound going.running less early leg.1 (pause_within until s stepped leg.2);
   is = refl;

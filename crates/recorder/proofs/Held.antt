@@ -12,11 +12,13 @@ strongest (Some Read) = omega arith
 strongest (Some Write) = omega arith
 
 -- a gain of what is lacking leaves less
-pub gains : (held : List (Option Mode)) (page : ℕ) (mode : Mode) → lacks held (page, mode) ≡ true → page < length held → deficit (slice_set held page (Some mode)) < deficit held
+pub gains : (held : List (Option Mode)) (page : ℕ) (mode : Mode) → lacks held (page, mode) ≡ true → page < length held
+    → deficit (slice_set held page (Some mode)) < deficit held
 gains [] page mode l inside = absurd (omega (arith, inside))
 gains (h ∷ held) zero mode l inside = lower (strength h) (strength (Some mode)) (deficit held) (ltb-true _ _ l) (strongest (Some mode)) where
   lower : (a b rest : ℕ) → a < b → b ≤ 2 → 2 - b + rest < 2 - a + rest
   lower a b rest less most = omega (arith, less, most)
-gains (h ∷ held) (suc page) mode l inside = still (missing h) (deficit held) (deficit (slice_set held page (Some mode))) (gains held page mode l (omega (arith, inside))) where
-  still : (m a b : ℕ) → b < a → m + b < m + a
-  still m a b less = omega (arith, less)
+gains (h ∷ held) (suc page) mode l inside =
+    still (missing h) (deficit held) (deficit (slice_set held page (Some mode))) (gains held page mode l (omega (arith, inside))) where
+      still : (m a b : ℕ) → b < a → m + b < m + a
+      still m a b less = omega (arith, less)

@@ -16,7 +16,8 @@ pub record Kept (n : ℕ) (r s : LoneRun) : Type 0 where
   pub pages : s.pages ≡ r.pages
 
 pub moves_keep : (n : ℕ) (r s : LoneRun) → Moves n r s → Kept n r s
-moves_keep zero r s moves = record { count = ap (λ x. x.count) (sym moves) ∙ omega arith; held = ap (λ x. x.held) (sym moves); pages = ap (λ x. x.pages) (sym moves) }
+moves_keep zero r s moves =
+    record { count = ap (λ x. x.count) (sym moves) ∙ omega arith; held = ap (λ x. x.held) (sym moves); pages = ap (λ x. x.pages) (sym moves) }
 moves_keep (suc n) r s moves =
     let k = moves_keep n moves.0 s moves.2 in
     let step = moves.1.2 in
@@ -28,18 +29,22 @@ moves_keep (suc n) r s moves =
       pages = k.pages ∙ ap (λ x. x.pages) step;
     }
 
-pub one_step : (r s t : LoneRun) (until : ℕ) → (n : ℕ) × Moves n r s × (s.count ≤ until) → s.count < until → Steps s t Moved → (n : ℕ) × Moves n r t × (t.count ≤ until)
+pub one_step : (r s t : LoneRun) (until : ℕ) → (n : ℕ) × Moves n r s × (s.count ≤ until) → s.count < until → Steps s t Moved
+    → (n : ℕ) × Moves n r t × (t.count ≤ until)
 one_step r s t until moves less step =
     let up = ap (λ x. x.count) step.2 in
     (suc moves.0, move_more moves.0 r s t moves.1 step, omega (arith, up, less))
 
 -- a step that is no move ends the leg
-pub paused : (r s t : LoneRun) (until : ℕ) (stepped : Stepped) → (n : ℕ) × Moves n r s × (s.count ≤ until) → s.count < until → Steps s t stepped → (stepped ≡ Moved → ⊥)
+pub paused : (r s t : LoneRun) (until : ℕ) (stepped : Stepped) → (n : ℕ) × Moves n r s × (s.count ≤ until) → s.count < until → Steps s t stepped
+    → (stepped ≡ Moved → ⊥)
     → Leg until r t stepped × (t.held ≡ r.held) × (t.pages ≡ r.pages)
 paused r s t until Moved moves less step other = absurd (other refl)
 paused r s t until (Wants page mode) moves less step other =
     let k = moves_keep moves.0 r s moves.1 in
-    subst (λ x. Leg until r x (Wants page mode) × (x.held ≡ r.held) × (x.pages ≡ r.pages)) (sym step.2) ((moves.0, moves.1, (less, step.0, step.1)), k.held, k.pages)
+    subst (λ x. Leg until r x (Wants page mode) × (x.held ≡ r.held) × (x.pages ≡ r.pages)) (sym step.2)
+    ((moves.0, moves.1, (less, step.0, step.1)), k.held, k.pages)
 paused r s t until (AtDevice word access) moves less step other =
     let k = moves_keep moves.0 r s moves.1 in
-    subst (λ x. Leg until r x (AtDevice word access) × (x.held ≡ r.held) × (x.pages ≡ r.pages)) (sym step.1) ((moves.0, moves.1, (less, step.0)), k.held, k.pages)
+    subst (λ x. Leg until r x (AtDevice word access) × (x.held ≡ r.held) × (x.pages ≡ r.pages)) (sym step.1)
+    ((moves.0, moves.1, (less, step.0)), k.held, k.pages)

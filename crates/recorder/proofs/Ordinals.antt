@@ -37,7 +37,8 @@ other : (m a : ℕ) → m < a → (m == a) ≡ false
 other m a less = ⊎_elim (λ t. let same = t.1 in absurd (omega (arith, same, less))) (λ f. f.0) (eqb_tells m a)
 
 -- later ordinals are found behind an entry with an earlier one
-passed : (e : Entry) (stream : List Entry) (m a n : ℕ) → ordinal_of e ≡ Some m → m < a → filter_map (at_ordinal (e ∷ stream)) (range_with_len a n) ≡ filter_map (at_ordinal stream) (range_with_len a n)
+passed : (e : Entry) (stream : List Entry) (m a n : ℕ) → ordinal_of e ≡ Some m → m < a
+    → filter_map (at_ordinal (e ∷ stream)) (range_with_len a n) ≡ filter_map (at_ordinal stream) (range_with_len a n)
 passed e stream m a zero is less = refl
 passed e stream m a (suc n) is less =
     ap₂ cons_option
@@ -54,15 +55,20 @@ rest (x ∷ xs) = xs
 
 module _ {Y : Type 0} (h : Entry → Option Y) (quiet : (e : Entry) → ordinal_of e ≡ None → h e ≡ None) where
   InOrder : List Entry → ℕ → ℕ → Type 0
-  InOrder stream a n = filter_map ordinal_of stream ≡ range_with_len a n → filter_map h (filter_map (at_ordinal stream) (range_with_len a n)) ≡ filter_map h stream
+  InOrder stream a n =
+      filter_map ordinal_of stream ≡ range_with_len a n → filter_map h (filter_map (at_ordinal stream) (range_with_len a n)) ≡ filter_map h stream
 
-  unnumbered : (e : Entry) (stream : List Entry) (a n : ℕ) → filter_map h (filter_map (at_ordinal stream) (range_with_len a n)) ≡ filter_map h stream → ordinal_of e ≡ None
+  unnumbered : (e : Entry) (stream : List Entry) (a n : ℕ) → filter_map h (filter_map (at_ordinal stream) (range_with_len a n)) ≡ filter_map h stream
+      → ordinal_of e ≡ None
       → filter_map h (filter_map (at_ordinal (e ∷ stream)) (range_with_len a n)) ≡ filter_map h (e ∷ stream)
   unnumbered e stream a n later none =
-      ap (filter_map h) (same_map (at_ordinal (e ∷ stream)) (at_ordinal stream) (λ k. ap (λ b. cond b (Some e) (at_ordinal stream k)) (ap (is_number k) none)) (range_with_len a n))
+      ap (filter_map h)
+      (same_map (at_ordinal (e ∷ stream)) (at_ordinal stream) (λ k. ap (λ b. cond b (Some e) (at_ordinal stream k)) (ap (is_number k) none))
+      (range_with_len a n))
       ∙ later ∙ ap (λ o. cons_option o (filter_map h stream)) (sym (quiet e none))
 
-  numbered : (e : Entry) (stream : List Entry) (m a n : ℕ) → filter_map h (filter_map (at_ordinal stream) (range_with_len (a + 1) n)) ≡ filter_map h stream → ordinal_of e ≡ Some m → m ≡ a
+  numbered : (e : Entry) (stream : List Entry) (m a n : ℕ) → filter_map h (filter_map (at_ordinal stream) (range_with_len (a + 1) n)) ≡ filter_map h stream
+      → ordinal_of e ≡ Some m → m ≡ a
       → filter_map h (filter_map (at_ordinal (e ∷ stream)) (range_with_len a (suc n))) ≡ filter_map h (e ∷ stream)
   numbered e stream m a n later is same =
       ap₂ (λ o xs. filter_map h (cons_option o xs))
@@ -71,13 +77,15 @@ module _ {Y : Type 0} (h : Entry → Option Y) (quiet : (e : Entry) → ordinal_
       ∙ ap (cons_option (h e)) later
 
   step_order : (e : Entry) (stream : List Entry) (o : Option ℕ) (a n : ℕ) → ordinal_of e ≡ o → cons_option o (filter_map ordinal_of stream) ≡ range_with_len a n
-      → ((b k : ℕ) → filter_map ordinal_of stream ≡ range_with_len b k → filter_map h (filter_map (at_ordinal stream) (range_with_len b k)) ≡ filter_map h stream)
+      → ((b k : ℕ) → filter_map ordinal_of stream ≡ range_with_len b k
+      → filter_map h (filter_map (at_ordinal stream) (range_with_len b k)) ≡ filter_map h stream)
       → filter_map h (filter_map (at_ordinal (e ∷ stream)) (range_with_len a n)) ≡ filter_map h (e ∷ stream)
   step_order e stream None a n is numbers later = unnumbered e stream a n (later a n numbers) is
   step_order e stream (Some m) a zero is numbers later = let l = ap length numbers in absurd (omega (arith, l))
   step_order e stream (Some m) a (suc n) is numbers later = numbered e stream m a n (later (a + 1) n (ap rest numbers)) is (ap first numbers)
 
-  in_order : (stream : List Entry) (a n : ℕ) → filter_map ordinal_of stream ≡ range_with_len a n → filter_map h (filter_map (at_ordinal stream) (range_with_len a n)) ≡ filter_map h stream
+  in_order : (stream : List Entry) (a n : ℕ) → filter_map ordinal_of stream ≡ range_with_len a n
+      → filter_map h (filter_map (at_ordinal stream) (range_with_len a n)) ≡ filter_map h stream
   in_order [] a zero numbers = refl
   in_order [] a (suc n) numbers = let l = ap length numbers in absurd (omega (arith, l))
   in_order (e ∷ stream) a n numbers = step_order e stream (ordinal_of e) a n refl numbers (λ b k. in_order stream b k)
@@ -85,7 +93,8 @@ module _ {Y : Type 0} (h : Entry → Option Y) (quiet : (e : Entry) → ordinal_
 abbrev has_ordinal : Entry → Bool
 has_ordinal e = is_some (ordinal_of e)
 
-counted_on : (e : Entry) (stream : List Entry) (o : Option ℕ) → ordinal_of e ≡ o → count_by has_ordinal stream ≡ length (filter_map ordinal_of stream) → count_by has_ordinal (e ∷ stream) ≡ length (cons_option o (filter_map ordinal_of stream))
+counted_on : (e : Entry) (stream : List Entry) (o : Option ℕ) → ordinal_of e ≡ o → count_by has_ordinal stream ≡ length (filter_map ordinal_of stream)
+    → count_by has_ordinal (e ∷ stream) ≡ length (cons_option o (filter_map ordinal_of stream))
 counted_on e stream None is later =
     let none = count_none has_ordinal e (ap is_some is) in
     let all = count_cons has_ordinal stream e in
@@ -100,7 +109,8 @@ counted [] = refl
 counted (e ∷ stream) = counted_on e stream (ordinal_of e) refl (counted stream)
 
 -- what entries of a log with one such stream tell in the order of ordinals is what they tell in the stream
-pub told_in_order : {Y : Type 0} (h : Entry → Option Y) → ((e : Entry) → ordinal_of e ≡ None → h e ≡ None) → (log : Log) (stream : List Entry) (n : ℕ) → log.streams ≡ stream ∷ [] → filter_map ordinal_of stream ≡ below n → filter_map h (by_ordinal log) ≡ filter_map h stream
+pub told_in_order : {Y : Type 0} (h : Entry → Option Y) → ((e : Entry) → ordinal_of e ≡ None → h e ≡ None) → (log : Log) (stream : List Entry) (n : ℕ)
+    → log.streams ≡ stream ∷ [] → filter_map ordinal_of stream ≡ below n → filter_map h (by_ordinal log) ≡ filter_map h stream
 told_in_order h quiet log stream n one numbers =
     let all : flat_map (λ s. s) log.streams ≡ stream = ap (flat_map (λ s. s)) one ∙ append-nil stream in
     let many : count_by (λ e. is_some (ordinal_of e)) stream ≡ n = counted stream ∙ ap length (numbers ∙ below_range n) ∙ length-range_with_len 0 n in

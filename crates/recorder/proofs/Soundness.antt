@@ -24,16 +24,19 @@ use Rattle.std.proofs.lemmas.List.{length-set}
 use Rattle.shared_types.proofs.Lists.{at_one_more, one_passes, last_passes}
 use Rattle.recorder.specs.LoneRun.{LoneRun, unit}
 use Rattle.recorder.specs.Running.{Running, IsRecorder, gain_size, poll_size, touch_size, size_with, gained, polled_at, touched_by}
+use Rattle.rv_words.specs.Limits.{poll_distance}
 
 grown : (stream : List Entry) (e : Entry) (size n : ℕ) → size ≡ size_with stream → size_in unit 1 e ≡ n → size + n ≡ size_with (stream ++ e ∷ [])
 grown stream e size n is one =
     let s = sum_by-append (size_in unit 1) stream (e ∷ []) in
     omega (arith, s, is, one)
 
-all_in : (pages : ℕ) (stream : List Entry) (e : Entry) → list_all (is_entry 1 pages) stream ≡ true → is_entry 1 pages e ≡ true → list_all (is_entry 1 pages) (stream ++ e ∷ []) ≡ true
+all_in : (pages : ℕ) (stream : List Entry) (e : Entry) → list_all (is_entry 1 pages) stream ≡ true → is_entry 1 pages e ≡ true
+    → list_all (is_entry 1 pages) (stream ++ e ∷ []) ≡ true
 all_in pages stream e each here = list_all-append (is_entry 1 pages) stream (e ∷ []) ∙ ap₂ (λ a b. a && (b && true)) each here
 
-below_still : (stream : List Entry) (e : Entry) (bound more : ℕ) → ((i : ℕ) (x : Entry) → slice_get stream i ≡ Some x → count_of x < bound) → bound ≤ more → count_of e < more
+below_still : (stream : List Entry) (e : Entry) (bound more : ℕ) → ((i : ℕ) (x : Entry) → slice_get stream i ≡ Some x → count_of x < bound) → bound ≤ more
+    → count_of e < more
     → (i : ℕ) (x : Entry) → slice_get (stream ++ e ∷ []) i ≡ Some x → count_of x < more
 below_still stream e bound more below later here i x at = ⊎_elim
     (λ l. let b = below i x l.1 in omega (arith, b, later))
@@ -52,7 +55,8 @@ below_more n = ap below (next n) where
   next : (n : ℕ) → suc n ≡ n + 1
   next n = omega arith
 
-pub gain_sound : (r : Running) (page : ℕ) (mode : Mode) (waits : WaitList) → IsRecorder r → r.run.count < r.next_poll → r.size + gain_size ≤ r.log_limit → page < r.run.pages → waits.items ≡ [] → IsRecorder (gained r page mode waits)
+pub gain_sound : (r : Running) (page : ℕ) (mode : Mode) (waits : WaitList) → IsRecorder r → r.run.count < r.next_poll → r.size + gain_size ≤ r.log_limit
+    → page < r.run.pages → waits.items ≡ [] → IsRecorder (gained r page mode waits)
 gain_sound r page mode waits sound early room inside none =
     let e = entries.Gain r.run.count page (slice_index r.numbers page) mode waits in
     let longer = length_push r.stream e in
@@ -88,7 +92,8 @@ lines_below false false = refl
 abbrev polls_at : ℕ → Entry → Bool
 polls_at n x = is_poll x && (count_of x == n)
 
-pub poll_sound : (r : Running) (time : ℕ) → IsRecorder r → r.run.count ≡ r.next_poll → r.run.count < r.limit → r.size + poll_size ≤ r.log_limit → IsRecorder (polled_at r time)
+pub poll_sound : (r : Running) (time : ℕ) → IsRecorder r → r.run.count ≡ r.next_poll → r.run.count < r.limit → r.size + poll_size ≤ r.log_limit
+    → IsRecorder (polled_at r time)
 poll_sound r time sound due less room =
     let bits = lines_at r.devices 0 time in
     let e = entries.Poll r.run.count r.ordinal time bits in
@@ -119,7 +124,8 @@ poll_sound r time sound due less room =
       entries = all_in r.run.pages r.stream e sound.entries (lines_below (msip_of r.devices 0) (nat_le (mtimecmp_of r.devices 0) time));
     }
 
-pub touch_sound : (r : Running) (input : Input) (d : Devices × ℕ) (spare : ℕ) → IsRecorder r → r.run.count < r.next_poll → r.run.count < r.limit → r.size + touch_size ≤ r.log_limit → d.0.harts ≡ r.devices.harts → IsRecorder (touched_by r input d spare)
+pub touch_sound : (r : Running) (input : Input) (d : Devices × ℕ) (spare : ℕ) → IsRecorder r → r.run.count < r.next_poll → r.run.count < r.limit
+    → r.size + touch_size ≤ r.log_limit → d.0.harts ≡ r.devices.harts → IsRecorder (touched_by r input d spare)
 touch_sound r input d spare sound early less room harts =
     let e = entries.Touch r.run.count r.ordinal input in
     let longer = length_push r.stream e in
@@ -145,7 +151,8 @@ touch_sound r input d spare sound early less room harts =
     }
 
 -- moves up to the limit and the next Poll
-pub leg_sound : (r : Running) (s : LoneRun) → IsRecorder r → s.count ≤ r.limit → s.count ≤ r.next_poll → s.pages ≡ r.run.pages → s.held ≡ r.run.held → IsRecorder (record r { run = s })
+pub leg_sound : (r : Running) (s : LoneRun) → IsRecorder r → s.count ≤ r.limit → s.count ≤ r.next_poll → s.pages ≡ r.run.pages → s.held ≡ r.run.held
+    → IsRecorder (record r { run = s })
 leg_sound r s sound less early pages held = record {
   device_harts = sound.device_harts;
   numbers_size = sound.numbers_size ∙ sym pages;
@@ -167,16 +174,16 @@ leg_sound r s sound less early pages held = record {
 }
 
 -- each entry has a byte at least
-sized : (e : Entry) → 1 ≤ size_of e
+sized : (e : Entry) → 1 ≤ size_in unit 1 e
 sized (entries.Gain count page seq mode waits) = omega arith
 sized (entries.Yield count page seq keeps) = omega arith
 sized (entries.Poll count ord time bits) = omega arith
 sized (entries.Touch count ord input) = omega arith
 sized (entries.End count) = omega arith
 
-few : (stream : List Entry) → length stream ≤ sum_by size_of stream
+few : (stream : List Entry) → length stream ≤ sum_by (size_in unit 1) stream
 few [] = omega arith
-few (e ∷ stream) = let s = sum_by-append size_of (e ∷ []) stream in let one = sized e in let rest = few stream in omega (arith, s, one, rest)
+few (e ∷ stream) = let s = sum_by-append (size_in unit 1) (e ∷ []) stream in let one = sized e in let rest = few stream in omega (arith, s, one, rest)
 
 -- the entries of a sound recorder are few
 pub few_entries : (r : Running) → IsRecorder r → length r.stream ≤ 536870912

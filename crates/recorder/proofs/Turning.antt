@@ -34,7 +34,8 @@ ends_on o p q r s t (ended.By cause) went same ends = (
   faults_on cause o p q same ends.2,
 )
 
-pub leg_going : (until : ℕ) (o : Sources) (r s : Running) (stepped : Stepped) → IsGoing r → until ≤ r.limit → until ≤ r.next_poll → LegTo until o r s stepped → s.run.count < until → IsGoing s
+pub leg_going : (until : ℕ) (o : Sources) (r s : Running) (stepped : Stepped) → IsGoing r → until ≤ r.limit → until ≤ r.next_poll → LegTo until o r s stepped
+    → s.run.count < until → IsGoing s
 leg_going until o r s stepped going less early leg before =
     let limit = ap (λ x. x.limit) leg.is in
     let next = ap (λ x. x.next_poll) leg.is in
@@ -46,7 +47,8 @@ leg_going until o r s stepped going less early leg before =
     }
 
 -- what led to a turn's access, and then the access
-pub turns_on : (o p q : Sources) (r s t : Running) (result : Result (Unit {0}) Ended) → Went o p r s → p.console.faults ≡ o.console.faults → TurnsTo p q result s t → TurnsTo o q result r t
+pub turns_on : (o p q : Sources) (r s t : Running) (result : Result (Unit {0}) Ended) → Went o p r s → p.console.faults ≡ o.console.faults
+    → TurnsTo p q result s t → TurnsTo o q result r t
 turns_on o p q r s t (Ok u) went same turns =
     let later = went.later in
     let up = turns.2 in

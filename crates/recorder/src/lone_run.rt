@@ -42,15 +42,16 @@ impl Model for LoneRun {
 
     ghost Value = { lone.LoneRun };
 
-    ghost view = {
-        λ r. record { pages = r.pages; hart = r.hart; count = r.count; memory = r.memory; held = r.held.items }
-    };
+    ghost view = { λ r.
+        record { pages = r.pages; hart = r.hart; count = r.count; memory = r.memory; held = r.held.items } };
 
-    ghost invariant = {
-        λ r. IsOneBoard (record {
-            pages = r.pages; hart = r.hart; count = r.count; memory = r.memory; held = r.held.items
-        })
-    };
+    ghost invariant = { λ r. IsOneBoard (record {
+      pages = r.pages;
+      hart = r.hart;
+      count = r.count;
+      memory = r.memory;
+      held = r.held.items;
+    }) };
 }
 
 /// How much a hold is worth: nothing, Read, Write.

@@ -63,10 +63,8 @@ pub fn record_one<C: Console, K: Clock>(
     requires limit { limit ≤ 1000000000000 }
     requires least { 1024 ≤ log_limit }
     requires most { log_limit ≤ 536870912 }
-    ensures {
-        IfOk result (λ r. Comes image.now limit log_limit (sources (C.seen console) (K.seen clock))
-            (sources (C.seen r.console) (K.seen r.clock)) r.log r.ended)
-    }
+    ensures { IfOk result (λ r. Comes image.now limit log_limit (sources (C.seen console) (K.seen clock))
+        (sources (C.seen r.console) (K.seen r.clock)) r.log r.ended) }
 {
     let mut sources = Sources::of(console, clock);
     let recorded = record(alloc, image, limit, log_limit, &mut sources);

@@ -52,20 +52,18 @@ impl Model for Solo {
 
     ghost Value = { running.Running };
 
-    ghost view = {
-        λ s. record {
-            run = s.run;
-            limit = s.limit;
-            log_limit = s.log_limit;
-            size = s.size;
-            next_poll = s.next_poll;
-            devices = s.devices.devices;
-            spare = s.devices.spare;
-            numbers = s.numbers.items;
-            ordinal = s.ordinal;
-            stream = s.stream.items
-        }
-    };
+    ghost view = { λ s. record {
+      run = s.run;
+      limit = s.limit;
+      log_limit = s.log_limit;
+      size = s.size;
+      next_poll = s.next_poll;
+      devices = s.devices.devices;
+      spare = s.devices.spare;
+      numbers = s.numbers.items;
+      ordinal = s.ordinal;
+      stream = s.stream.items;
+    } };
 }
 
 /// The bytes of a Gain, which has no waits.
@@ -130,7 +128,12 @@ fn ended_stream(alloc: Global, mut stream: Vec<Entry>, count: u64) -> Result<Str
 
 /// What the run of one hart ended with.
 fn end_of(alloc: Global, run: LoneRun, devices: Devices, cause: Cause) -> Result<Final, NoMemory>
-    ensures { IfOk result (λ f. f ≡ final_of (record { harts = run.hart ∷ []; counts = run.count ∷ []; memory = run.memory; devices = devices.devices }) cause) }
+    ensures { IfOk result (λ f. f ≡ final_of (record {
+      harts = run.hart ∷ [];
+      counts = run.count ∷ [];
+      memory = run.memory;
+      devices = devices.devices;
+    }) cause) }
 {
     let counts = only(alloc, run.count())?;
     let (hart, memory) = run.into_parts();
@@ -190,7 +193,8 @@ impl Solo {
         image: [u8; 32],
         cause: Cause,
     ) -> Result<(Log, Final), NoMemory>
-        ensures log { IfOk result (λ r. r.0 ≡ log_of_recording (board unit) self.limit pages image cause (recording_of self)) }
+        ensures log { IfOk result
+            (λ r. r.0 ≡ log_of_recording (board unit) self.limit pages image cause (recording_of self)) }
         ensures ended { IfOk result (λ r. r.1 ≡ final_of (flat_of self) cause) }
     {
         let count = self.run.count();

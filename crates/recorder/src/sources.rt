@@ -77,9 +77,8 @@ impl<C: Console, K: Clock> Sources<C, K> {
         requires harts { devices.old.devices.harts ≡ 1 }
         requires word { IsSome (device_word devices.old.devices.harts access.at) }
         requires room { HasRoom devices.old access }
-        ensures devices {
-            IfOk result (λ t. touched devices.old.devices access t.input ≡ Some (devices.new.devices, t.loaded))
-        }
+        ensures devices { IfOk result
+            (λ t. touched devices.old.devices access t.input ≡ Some (devices.new.devices, t.loaded)) }
         ensures harts { devices.new.devices.harts ≡ devices.old.devices.harts }
         ensures accessed { IfOk result (λ t. Accessed self.old self.new devices.old.devices access t.input) }
         ensures refused { OnErr result (Refused self.old self.new devices.old.devices access) }

@@ -7,7 +7,8 @@ range_more : (a n : ℕ) → range_with_len a (suc n) ≡ range_with_len a n ++ 
 range_more a zero = ap (λ z. z ∷ []) (omega arith)
 range_more a (suc n) = ap (λ z. a ∷ z) (range_more (a + 1) n ∙ ap (λ z. range_with_len (a + 1) n ++ (z ∷ [])) (omega arith))
 
-pub next_of_range : (f : ℕ → List ℕ) (bs : List ℕ) (a n : ℕ) → a ≤ n → (bs ++ flat_map f (range_with_len a (n - a))) ++ f n ≡ bs ++ flat_map f (range_with_len a (n + 1 - a))
+pub next_of_range : (f : ℕ → List ℕ) (bs : List ℕ) (a n : ℕ) → a ≤ n
+    → (bs ++ flat_map f (range_with_len a (n - a))) ++ f n ≡ bs ++ flat_map f (range_with_len a (n + 1 - a))
 next_of_range f bs a n le =
     let m : a + (n - a) ≡ n = omega (arith, le) in
     let k : suc (n - a) ≡ n + 1 - a = omega (arith, le) in

@@ -88,7 +88,8 @@ fn put_spaced_registers(
     many: u8,
 ) -> Result<(), AllocError>
     requires { first + many ≤ 32 }
-    ensures { OnOk result (string_bytes out.new ≡ string_bytes out.old ++ spaced_registers hart.now (range_with_len first many)) }
+    ensures { OnOk result
+        (string_bytes out.new ≡ string_bytes out.old ++ spaced_registers hart.now (range_with_len first many)) }
 {
     for n in first..first + many {
         put_spaced(alloc, out, hart.reg(n))?;

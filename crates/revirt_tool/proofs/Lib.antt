@@ -1,5 +1,4 @@
 pub mod Printing
 pub mod Keeping
-pub mod Names
 pub mod Wishes
 pub mod Completing

@@ -1,32 +1,36 @@
 -- What the words of a recording wish for.
-use Rattle.std.proofs.Common.{◌≡◌, ◌≢◌, ℕ, Bool, List, Option, Some, None, Result, Ok, Err, option_map, IfSome, refl, sym, ap, ◌∙◌}
+use Rattle.std.proofs.Common.{◌≡◌, ◌≢◌, ℕ, Bool, List, Option, Some, None, Result, Ok, Err, option_map, IfSome, refl, sym, ap, ◌∙◌, subst}
 use Rattle.std.proofs.lemmas.Option.{none-some, same_Some}
 use Rattle.command_words.specs.declared.job.Job.{Job}
 use Rattle.command_words.specs.declared.job.Job.TheVariants.{Record}
+use Rattle.command_words.specs.Texts.{word_at}
+use Rattle.command_words.specs.Allowed.{KeepsApart}
 use Rattle.command_words.specs.Grammar.{job_of}
-use Rattle.recorder.specs.Outside.{Outside}
-use Rattle.revirt_tool.specs.World.{Shelf}
-use Rattle.revirt_tool.specs.Recorded.{Wish, wish, wish_of, word_at}
+use Rattle.outside.specs.Seen.{SeenShelf}
+use Rattle.recorder.specs.Sources.{Sources}
+use Rattle.revirt_tool.specs.Promise.{Wish, wish, wish_of}
 use Rattle.revirt_tool.specs.Serving.{RecordsAs, EndsAs}
 use Rattle.revirt_tool.specs.declared.ending.Ending.{Ending}
-use Rattle.revirt_tool.specs.declared.ending.Ending.TheVariants.{Usage, NotBuilt, TooLong, ImageRefused, NoMemory, ShelfFault, Recorded}
-use Rattle.revirt_tool.proofs.Names.{names_differ}
+use Rattle.revirt_tool.specs.declared.ending.Ending.TheVariants.{Usage, NotBuilt, TooLong, ImageRefused, NoMemory, ShelfFault, Kept}
 
 abbrev wished : List ℕ → List ℕ → Option (List ℕ) → ℕ → ℕ → ℕ → Wish
 wished image log dump pages limit log_limit = record { image = image; log = log; dump = dump; pages = pages; limit = limit; log_limit = log_limit }
 
 -- words of a recording of one hart wish for it, by its names
-pub wishes : (words : List (List ℕ)) (job : Job) (image log harts pages limit log_limit : ℕ) (dump : Option ℕ) (rounds : Bool) (a b : List ℕ) (d : Option (List ℕ))
+pub wishes : (words : List (List ℕ)) (job : Job) (image log harts pages limit log_limit : ℕ) (dump : Option ℕ) (rounds : Bool) (a b : List ℕ)
+    (d : Option (List ℕ))
     → job_of words ≡ Ok job → job ≡ Record image log harts pages limit log_limit dump rounds → harts ≡ 1
     → a ≡ word_at words image → b ≡ word_at words log → d ≡ option_map (word_at words) dump
     → wish words ≡ Some (wished a b d pages limit log_limit)
 wishes words job image log harts pages limit log_limit dump rounds a b d read is one image_is log_is dump_is =
-    ap (λ (r : Result Job ℕ). elim r [ Ok j ↦ wish_of words j | Err place ↦ None ]) (read ∙ ap Ok (is ∙ ap (λ h. Record image log h pages limit log_limit dump rounds) one))
+    ap (λ (r : Result Job ℕ). elim r [ Ok j ↦ wish_of words j | Err place ↦ None ])
+    (read ∙ ap Ok (is ∙ ap (λ h. Record image log h pages limit log_limit dump rounds) one))
     ∙ ap (λ n. Some (wished n (word_at words log) (option_map (word_at words) dump) pages limit log_limit)) (sym image_is)
     ∙ ap (λ n. Some (wished a n (option_map (word_at words) dump) pages limit log_limit)) (sym log_is)
     ∙ ap (λ n. Some (wished a b n pages limit log_limit)) (sym dump_is)
 
-placed : (words : List (List ℕ)) (dump : Option ℕ) (d : List ℕ) → option_map (word_at words) dump ≡ Some d → (place : ℕ) × (dump ≡ Some place) × (word_at words place ≡ d)
+placed : (words : List (List ℕ)) (dump : Option ℕ) (d : List ℕ) → option_map (word_at words) dump ≡ Some d
+    → (place : ℕ) × (dump ≡ Some place) × (word_at words place ≡ d)
 placed words None d e = absurd (none-some d e)
 placed words (Some place) d e = (place, refl, same_Some _ _ e)
 
@@ -35,20 +39,23 @@ each now None P f = tt
 each now (Some d) P f = f (now d) refl
 
 -- and its dump has another name than its log
-pub dump_is_other : {B : Type 0} (now : B → List ℕ) (o : Option B) (words : List (List ℕ)) (job : Job) (image log harts pages limit log_limit : ℕ) (dump : Option ℕ) (rounds : Bool) (b : List ℕ)
-    → job_of words ≡ Ok job → job ≡ Record image log harts pages limit log_limit dump rounds → b ≡ word_at words log → option_map now o ≡ option_map (word_at words) dump
-    → IfSome o (λ d. now d ≢ b)
-dump_is_other now o words job image log harts pages limit log_limit dump rounds b read is log_is dump_is =
+pub dump_is_other : {B : Type 0} (now : B → List ℕ) (o : Option B) (words : List (List ℕ)) (job : Job)
+    (image log harts pages limit log_limit : ℕ) (dump : Option ℕ) (rounds : Bool) (b : List ℕ)
+    → KeepsApart words job → job ≡ Record image log harts pages limit log_limit dump rounds → b ≡ word_at words log
+    → option_map now o ≡ option_map (word_at words) dump → IfSome o (λ d. now d ≢ b)
+dump_is_other now o words job image log harts pages limit log_limit dump rounds b apart is log_is dump_is =
     each now o (λ d. d ≢ b) (λ d e same.
     let p = placed words dump d (sym dump_is ∙ e) in
-    names_differ words image log harts pages limit log_limit p.0 rounds (read ∙ ap Ok (is ∙ ap (λ x. Record image log harts pages limit log_limit x rounds) p.1)) (p.2 ∙ same ∙ log_is))
+    let recording = is ∙ ap (λ x. Record image log harts pages limit log_limit x rounds) p.1 in
+    subst (KeepsApart words) recording apart (p.2 ∙ same ∙ log_is))
 
 -- what comes of the recording is what comes of the words
-pub ends_as : (words : List (List ℕ)) (w : Wish) (s t : Shelf) (o p : Outside) (ending : Ending) → wish words ≡ Some w → RecordsAs w s t o p ending → EndsAs words s t o p ending
+pub ends_as : (words : List (List ℕ)) (w : Wish) (s t : SeenShelf) (o p : Sources) (ending : Ending) → wish words ≡ Some w → RecordsAs w s t o p ending
+    → EndsAs words s t o p ending
 ends_as words w s t o p (Usage place) is records = absurd records
 ends_as words w s t o p NotBuilt is records = absurd records
 ends_as words w s t o p TooLong is records = (w, is, records)
 ends_as words w s t o p (ImageRefused rule) is records = (w, is, records)
 ends_as words w s t o p NoMemory is records = (w, is, records)
 ends_as words w s t o p ShelfFault is records = (w, is, records)
-ends_as words w s t o p (Recorded report fault) is records = (w, is, records)
+ends_as words w s t o p (Kept report fault) is records = (w, is, records)

@@ -1,6 +1,5 @@
 pub mod Lines
-pub mod World
 pub mod Closing
-pub mod Recorded
+pub mod Promise
 pub mod Serving
 pub mod Complete

@@ -1,7 +1,7 @@
 //! How a command ends: its status, and the text that it prints.
 
 ghost use Rattle.std.specs.Prelude.{◌≡◌, List, ℕ};
-ghost use Rattle.revirt_tool.specs.Closing.{Prints, Closes};
+ghost use Rattle.revirt_tool.specs.Closing.{Tells, Closes};
 
 use outside::Sink;
 use std::alloc::Global;
@@ -18,12 +18,12 @@ pub enum Ending {
     NoMemory,
     ShelfFault,
     /// The run's report, and whether the console failed in the run.
-    Recorded { report: Vec<u8>, fault: bool },
+    Kept { report: Vec<u8>, fault: bool },
 }
 
 /// Prints a text, and gives the status where it is printed, or the other one.
 fn print<R: Sink>(text: &[u8], printed: u8, failed: u8, report: &mut R) -> u8
-    ensures { Prints text.now printed failed (record { tells = R.tells report.old; written = R.written report.old; faults = R.faults report.old }) (record { tells = R.tells report.new; written = R.written report.new; faults = R.faults report.new }) result }
+    ensures { Tells text.now printed failed (R.seen report.old) (R.seen report.new) result }
 {
     match report.put(text) {
         Ok(()) => printed,
@@ -33,7 +33,7 @@ fn print<R: Sink>(text: &[u8], printed: u8, failed: u8, report: &mut R) -> u8
 
 /// Prints the text of an ending, and gives its status.
 pub(crate) fn close<R: Sink>(alloc: Global, ending: Ending, report: &mut R) -> u8
-    ensures { Closes ending (record { tells = R.tells report.old; written = R.written report.old; faults = R.faults report.old }) (record { tells = R.tells report.new; written = R.written report.new; faults = R.faults report.new }) result }
+    ensures { Closes ending (R.seen report.old) (R.seen report.new) result }
 {
     match ending {
         Ending::Usage { place } => match format!(in alloc; "usage: word {place}\n") {
@@ -48,7 +48,7 @@ pub(crate) fn close<R: Sink>(alloc: Global, ending: Ending, report: &mut R) -> u
         },
         Ending::NoMemory => print(b"no memory\n", 3, 3, report),
         Ending::ShelfFault => print(b"shelf fault\n", 4, 4, report),
-        Ending::Recorded {
+        Ending::Kept {
             report: text,
             fault,
         } => {

@@ -9,6 +9,7 @@ mod top;
 
 use outside::{FileShelf, OpenGate, RealClock, Sink, StdConsole, StdSink};
 use std::env;
+use std::io::ErrorKind;
 use std::process::ExitCode;
 pub use top::{Finish, recordings_are_done, revirt, revirt_still};
 
@@ -22,8 +23,12 @@ fn refuse(rt: HostRuntime, line: &[u8], status: u8) -> ExitCode {
 fn main(rt: HostRuntime) -> ExitCode {
     let alloc = rt.alloc();
     let mut words = Vec::new(alloc);
-    let Ok(args) = env::args(&rt) else {
-        return refuse(rt, b"usage: word 0\n", 1);
+    let args = match env::args(&rt) {
+        Ok(args) => args,
+        Err(error) if error.kind() == ErrorKind::OutOfMemory => {
+            return refuse(rt, b"no memory\n", 3);
+        }
+        Err(_) => return refuse(rt, b"usage: word 0\n", 1),
     };
     for word in args.skip(1) {
         if words.push(word).is_err() {

@@ -4,7 +4,9 @@ ghost use Rattle.std.specs.Prelude.{◌≡◌, ◌≢◌, ◌≤◌, ◌++◌, I
 ghost use Rattle.rv_words.specs.declared.shared.Cause.TheVariants as causes;
 ghost use Rattle.log_entry.specs.Range.{in_range};
 ghost use Rattle.outside.specs.Causes.{HasCause};
-ghost use Rattle.revirt_tool.specs.Recorded.{wish_by};
+ghost use Rattle.outside.specs.Seen.{ToldBefore, Holds, OthersHold};
+ghost use Rattle.recorder.specs.Sources.{sources};
+ghost use Rattle.revirt_tool.specs.Promise.{wish_by};
 ghost use Rattle.revirt_tool.specs.Serving.{FileAs, ImageAs, KeepsAs, RecordsAs};
 
 use crate::ending::Ending;
@@ -13,7 +15,7 @@ use flat_machine::Final;
 use log_entry::{Cause, Log};
 use log_format::write_log;
 use outside::{Clock, Console, Failed, FetchError, Shelf, keep};
-use recorder::{OutOfMemory, Recorded, record_one};
+use recorder::{OutOfMemory, SoloRecorded, record_one};
 use report_view::report_text;
 use std::alloc::Global;
 
@@ -51,12 +53,12 @@ pub(crate) fn without_run<C: Console, K: Clock>(ending: Ending, console: C, cloc
 
 /// Keeps the dump: the memory, and then the bytes sent to the console.
 fn keep_dump<S: Shelf>(shelf: &mut S, name: &str, ended: &Final) -> Result<(), Failed>
-    requires writing { S.writing shelf.old ≡ false }
-    ensures writing { S.writing shelf.new ≡ false }
-    ensures tells { IsTrue (S.tells shelf.new) → IsTrue (S.tells shelf.old) }
-    ensures kept { OnOk result (IsTrue (S.tells shelf.new) → S.held shelf.new name.now ≡ Some (ended.now.memory ++ ended.now.sent)) }
-    ensures others { IsTrue (S.tells shelf.new) → (n : List ℕ) → n ≢ name.now → S.held shelf.new n ≡ S.held shelf.old n }
-    ensures cause { HasCause (S.faults shelf.old) (S.faults shelf.new) result }
+    requires writing { (S.seen shelf.old).writing ≡ false }
+    ensures writing { (S.seen shelf.new).writing ≡ false }
+    ensures tells { ToldBefore (S.seen shelf.old).tells (S.seen shelf.new).tells }
+    ensures kept { OnOk result (Holds (S.seen shelf.new) name.now (ended.now.memory ++ ended.now.sent)) }
+    ensures others { OthersHold name.now (S.seen shelf.old) (S.seen shelf.new) }
+    ensures cause { HasCause (S.seen shelf.old).faults (S.seen shelf.new).faults result }
 {
     keep(shelf, name, &[ended.memory.items(), ended.sent.items()])
 }
@@ -69,14 +71,14 @@ fn keep_run<S: Shelf>(
     log: &Log,
     ended: &Final,
 ) -> Ending
-    requires writing { S.writing shelf.old ≡ false }
+    requires writing { (S.seen shelf.old).writing ≡ false }
     requires range { IsTrue (in_range log.now) }
     requires counts { length ended.now.harts ≡ length ended.now.counts }
     requires stop { ended.now.cause ≡ causes.Stop → IsSome ended.now.stop }
     requires names { IfSome request.now.dump (λ d. d.now ≢ request.now.log.now) }
-    ensures writing { S.writing shelf.new ≡ false }
-    ensures tells { IsTrue (S.tells shelf.new) → IsTrue (S.tells shelf.old) }
-    ensures keeps { KeepsAs (wish_by request.now) log.now ended.now (record { tells = S.tells shelf.old; held = S.held shelf.old; faults = S.faults shelf.old }) (record { tells = S.tells shelf.new; held = S.held shelf.new; faults = S.faults shelf.new }) result }
+    ensures writing { (S.seen shelf.new).writing ≡ false }
+    ensures tells { ToldBefore (S.seen shelf.old).tells (S.seen shelf.new).tells }
+    ensures keeps { KeepsAs (wish_by request.now) log.now ended.now (S.seen shelf.old) (S.seen shelf.new) result }
 {
     let Ok(bytes) = write_log(alloc, log) else {
         return Ending::NoMemory;
@@ -92,7 +94,7 @@ fn keep_run<S: Shelf>(
             return Ending::ShelfFault;
         }
     }
-    Ending::Recorded {
+    Ending::Kept {
         report,
         fault: ended.cause == Cause::Fault,
     }
@@ -101,9 +103,9 @@ fn keep_run<S: Shelf>(
 /// The file of the image.
 fn file_for<S: Shelf>(alloc: Global, request: &Request, shelf: &mut S) -> Result<Vec<u8>, Ending>
     requires { S.has shelf.old request.now.image.now }
-    ensures writing { S.writing shelf.new ≡ S.writing shelf.old }
-    ensures tells { IsTrue (S.tells shelf.new) → IsTrue (S.tells shelf.old) }
-    ensures file { FileAs (λ v. v.items) (wish_by request.now) (record { tells = S.tells shelf.old; held = S.held shelf.old; faults = S.faults shelf.old }) (record { tells = S.tells shelf.new; held = S.held shelf.new; faults = S.faults shelf.new }) result }
+    ensures writing { (S.seen shelf.new).writing ≡ (S.seen shelf.old).writing }
+    ensures tells { ToldBefore (S.seen shelf.old).tells (S.seen shelf.new).tells }
+    ensures file { FileAs (λ v. v.items) (wish_by request.now) (S.seen shelf.old) (S.seen shelf.new) result }
 {
     match shelf.fetch(alloc, request.image, LONGEST_IMAGE) {
         Ok(file) => Ok(file),
@@ -118,9 +120,9 @@ fn image_for<S: Shelf>(alloc: Global, request: &Request, shelf: &mut S) -> Resul
     requires has { S.has shelf.old request.now.image.now }
     requires least { 1 ≤ request.now.pages }
     requires most { request.now.pages ≤ 4096 }
-    ensures writing { S.writing shelf.new ≡ S.writing shelf.old }
-    ensures tells { IsTrue (S.tells shelf.new) → IsTrue (S.tells shelf.old) }
-    ensures image { ImageAs (wish_by request.now) (record { tells = S.tells shelf.old; held = S.held shelf.old; faults = S.faults shelf.old }) (record { tells = S.tells shelf.new; held = S.held shelf.new; faults = S.faults shelf.new }) result }
+    ensures writing { (S.seen shelf.new).writing ≡ (S.seen shelf.old).writing }
+    ensures tells { ToldBefore (S.seen shelf.old).tells (S.seen shelf.new).tells }
+    ensures image { ImageAs (wish_by request.now) (S.seen shelf.old) (S.seen shelf.new) result }
 {
     let file = match file_for(alloc, request, shelf) {
         Ok(file) => file,
@@ -141,7 +143,7 @@ pub(crate) fn record<S: Shelf, C: Console, K: Clock>(
     console: C,
     clock: K,
 ) -> Ended<C, K>
-    requires writing { S.writing shelf.old ≡ false }
+    requires writing { (S.seen shelf.old).writing ≡ false }
     requires has { S.has shelf.old request.now.image.now }
     requires least { 1 ≤ request.now.pages }
     requires most { request.now.pages ≤ 4096 }
@@ -149,9 +151,11 @@ pub(crate) fn record<S: Shelf, C: Console, K: Clock>(
     requires shortest { 1024 ≤ request.now.log_limit }
     requires longest { request.now.log_limit ≤ 536870912 }
     requires names { IfSome request.now.dump (λ d. d.now ≢ request.now.log.now) }
-    ensures writing { S.writing shelf.new ≡ false }
-    ensures tells { IsTrue (S.tells shelf.new) → IsTrue (S.tells shelf.old) }
-    ensures records { RecordsAs (wish_by request.now) (record { tells = S.tells shelf.old; held = S.held shelf.old; faults = S.faults shelf.old }) (record { tells = S.tells shelf.new; held = S.held shelf.new; faults = S.faults shelf.new }) (record { tells_answers = C.tells_answers console; answers = C.answers console; tells_taken = C.tells_taken console; taken = C.taken console; faults = C.faults console; tells_times = K.tells clock; times = K.answers clock }) (record { tells_answers = C.tells_answers result.console; answers = C.answers result.console; tells_taken = C.tells_taken result.console; taken = C.taken result.console; faults = C.faults result.console; tells_times = K.tells result.clock; times = K.answers result.clock }) result.ending }
+    ensures writing { (S.seen shelf.new).writing ≡ false }
+    ensures tells { ToldBefore (S.seen shelf.old).tells (S.seen shelf.new).tells }
+    ensures records { RecordsAs (wish_by request.now) (S.seen shelf.old) (S.seen shelf.new)
+        (sources (C.seen console) (K.seen clock)) (sources (C.seen result.console) (K.seen result.clock))
+        result.ending }
 {
     let image = match image_for(alloc, request, shelf) {
         Ok(image) => image,
@@ -171,7 +175,7 @@ pub(crate) fn record<S: Shelf, C: Console, K: Clock>(
             clock,
         },
         Ok(
-            Recorded {
+            SoloRecorded {
                 log,
                 ended,
                 console,

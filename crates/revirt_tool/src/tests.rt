@@ -158,8 +158,9 @@ fn devices() -> [Row; 4] {
     [pages, timer, software, input]
 }
 
-/// Runs in which something fails, and one whose log is full.
-fn faults() -> [Row; 9] {
+/// Runs in which something fails. Of the calls of the shelf, 0 fetches, 1 to 3 keep the log, and 4 to 7 the dump, whose
+/// bytes sent are none in the smallest run and still appended.
+fn faults() -> [Row; 10] {
     let words = "record g l --pages 1 --limit 100 --dump d";
     let mut console = plain_row(words, sends(), 5, "cause fault");
     console.console_fails = &[2];
@@ -187,9 +188,22 @@ fn faults() -> [Row; 9] {
     append.shelf_fails = &[2];
     let mut finish = plain_row(words, smallest(), 4, "shelf fault");
     finish.shelf_fails = &[3];
+    let mut nothing_sent = plain_row(words, smallest(), 4, "shelf fault");
+    nothing_sent.shelf_fails = &[6];
+    nothing_sent.length = 123;
+    nothing_sent.entries = "p0:0.5.0 g0:0.0r t2:1.n e3";
     let missing = plain_row("record h l", smallest(), 4, "shelf fault");
     [
-        console, unkept, unprinted, report, fetch, begin, append, finish, missing,
+        console,
+        unkept,
+        unprinted,
+        report,
+        fetch,
+        begin,
+        append,
+        finish,
+        nothing_sent,
+        missing,
     ]
 }
 
@@ -631,7 +645,8 @@ fn an_image_that_is_too_long_is_refused(rt: HostRuntime) -> Result<(), Fail> {
 
 /// The words that record the guest `g`.
 fn smallest_words(alloc: Global) -> Result<Vec<String>, Fail>
-    ensures { IfOk result (λ v. texts v.items ≡ codes "record" ∷ codes "g" ∷ codes "l" ∷ codes "--pages" ∷ codes "1" ∷ codes "--limit" ∷ codes "100" ∷ []) }
+    ensures { IfOk result (λ v. texts v.items ≡ codes "record" ∷ codes "g" ∷ codes "l"
+        ∷ codes "--pages" ∷ codes "1" ∷ codes "--limit" ∷ codes "100" ∷ []) }
 {
     Ok(vec![in alloc;
         String::from_str(alloc, "record")?,

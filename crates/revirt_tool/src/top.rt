@@ -1,10 +1,11 @@
 //! The top call: what the words ask for, over the objects that are handed in.
 
 ghost use Rattle.std.specs.Prelude.{◌≡◌, ◌<◌, IsTrue, IfSome, Some, None, false, length, option_map};
-ghost use Rattle.command_words.specs.Texts.{texts};
+ghost use Rattle.command_words.specs.Texts.{texts, word_at};
 ghost use Rattle.command_words.specs.Grammar.{asks_free_run};
-ghost use Rattle.revirt_tool.specs.Recorded.{Wish, wish, word_at};
-ghost use Rattle.revirt_tool.specs.Serving.{EndsAs, Serves};
+ghost use Rattle.revirt_tool.specs.Promise.{Wish, wish};
+ghost use Rattle.revirt_tool.specs.Serving.{EndsAs, around, Serves};
+ghost use Rattle.recorder.specs.Sources.{sources};
 ghost use Rattle.revirt_tool.specs.Complete.{IsComplete};
 
 use crate::ending::{Ending, close};
@@ -49,10 +50,12 @@ fn serve<S: Shelf, C: Console, K: Clock>(
     console: C,
     clock: K,
 ) -> Ended<C, K>
-    requires writing { S.writing shelf.old ≡ false }
+    requires writing { (S.seen shelf.old).writing ≡ false }
     requires has { (w : Wish) → wish (texts words.now) ≡ Some w → S.has shelf.old w.image }
-    ensures writing { S.writing shelf.new ≡ false }
-    ensures ends { EndsAs (texts words.now) (record { tells = S.tells shelf.old; held = S.held shelf.old; faults = S.faults shelf.old }) (record { tells = S.tells shelf.new; held = S.held shelf.new; faults = S.faults shelf.new }) (record { tells_answers = C.tells_answers console; answers = C.answers console; tells_taken = C.tells_taken console; taken = C.taken console; faults = C.faults console; tells_times = K.tells clock; times = K.answers clock }) (record { tells_answers = C.tells_answers result.console; answers = C.answers result.console; tells_taken = C.tells_taken result.console; taken = C.taken result.console; faults = C.faults result.console; tells_times = K.tells result.clock; times = K.answers result.clock }) result.ending }
+    ensures writing { (S.seen shelf.new).writing ≡ false }
+    ensures ends { EndsAs (texts words.now) (S.seen shelf.old) (S.seen shelf.new)
+        (sources (C.seen console) (K.seen clock)) (sources (C.seen result.console) (K.seen result.clock))
+        result.ending }
     ensures as_handed_in { wish (texts words.now) ≡ None → (result.console ≡ console) × (result.clock ≡ clock) }
 {
     match read_words(words) {
@@ -95,10 +98,13 @@ pub fn revirt_still<T: Threads + Sync, S: Shelf, C: Console, K: Clock, G: Gate, 
     report: &mut R,
 ) -> Finish<C, K>
     requires still { asks_free_run (texts words.now) ≡ false }
-    requires writing { S.writing shelf.old ≡ false }
+    requires writing { (S.seen shelf.old).writing ≡ false }
     requires has { (w : Wish) → wish (texts words.now) ≡ Some w → S.has shelf.old w.image }
-    ensures writing { S.writing shelf.new ≡ false }
-    ensures serves { Serves (texts words.now) (record { tells = S.tells shelf.old; held = S.held shelf.old; faults = S.faults shelf.old }) (record { tells = S.tells shelf.new; held = S.held shelf.new; faults = S.faults shelf.new }) (record { tells_answers = C.tells_answers console; answers = C.answers console; tells_taken = C.tells_taken console; taken = C.taken console; faults = C.faults console; tells_times = K.tells clock; times = K.answers clock }) (record { tells_answers = C.tells_answers result.console; answers = C.answers result.console; tells_taken = C.tells_taken result.console; taken = C.taken result.console; faults = C.faults result.console; tells_times = K.tells result.clock; times = K.answers result.clock }) (record { tells = R.tells report.old; written = R.written report.old; faults = R.faults report.old }) (record { tells = R.tells report.new; written = R.written report.new; faults = R.faults report.new }) result.status }
+    ensures writing { (S.seen shelf.new).writing ≡ false }
+    ensures serves { Serves (texts words.now)
+        (around (S.seen shelf.old) (C.seen console) (K.seen clock) (R.seen report.old))
+        (around (S.seen shelf.new) (C.seen result.console) (K.seen result.clock) (R.seen report.new))
+        result.status }
     ensures as_handed_in { wish (texts words.now) ≡ None → (result.console ≡ console) × (result.clock ≡ clock) }
 {
     let Ended {
@@ -124,10 +130,13 @@ pub fn revirt<T: Threads + Wait + Sync, S: Shelf, C: Console, K: Clock, G: Gate,
     gate: &G,
     report: &mut R,
 ) -> Finish<C, K>
-    requires writing { S.writing shelf.old ≡ false }
+    requires writing { (S.seen shelf.old).writing ≡ false }
     requires has { (w : Wish) → wish (texts words.now) ≡ Some w → S.has shelf.old w.image }
-    ensures writing { S.writing shelf.new ≡ false }
-    ensures serves { Serves (texts words.now) (record { tells = S.tells shelf.old; held = S.held shelf.old; faults = S.faults shelf.old }) (record { tells = S.tells shelf.new; held = S.held shelf.new; faults = S.faults shelf.new }) (record { tells_answers = C.tells_answers console; answers = C.answers console; tells_taken = C.tells_taken console; taken = C.taken console; faults = C.faults console; tells_times = K.tells clock; times = K.answers clock }) (record { tells_answers = C.tells_answers result.console; answers = C.answers result.console; tells_taken = C.tells_taken result.console; taken = C.taken result.console; faults = C.faults result.console; tells_times = K.tells result.clock; times = K.answers result.clock }) (record { tells = R.tells report.old; written = R.written report.old; faults = R.faults report.old }) (record { tells = R.tells report.new; written = R.written report.new; faults = R.faults report.new }) result.status }
+    ensures writing { (S.seen shelf.new).writing ≡ false }
+    ensures serves { Serves (texts words.now)
+        (around (S.seen shelf.old) (C.seen console) (K.seen clock) (R.seen report.old))
+        (around (S.seen shelf.new) (C.seen result.console) (K.seen result.clock) (R.seen report.new))
+        result.status }
     ensures as_handed_in { wish (texts words.now) ≡ None → (result.console ≡ console) × (result.clock ≡ clock) }
 {
     revirt_still(rt, alloc, words, shelf, console, clock, gate, report)

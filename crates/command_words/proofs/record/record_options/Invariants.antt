@@ -8,7 +8,8 @@ use Rattle.command_words.proofs.record.record_options.Given as goal
 -- What is left to read gives what all the words give.
 abbrev pub invariant-loop-rest : goal.invariant-loop-rest
 invariant-loop-rest l = record {
-  reads : options record_option (string_bytes l.image ∷ string_bytes l.log ∷ []) (AnOption no_record_option) 3 (texts l.words) ≡ options record_option (string_bytes l.image ∷ string_bytes l.log ∷ []) (AnOption l.given) l.place (texts l.rest);
+  reads : options record_option (string_bytes l.image ∷ string_bytes l.log ∷ []) (AnOption no_record_option) 3 (texts l.words)
+      ≡ options record_option (string_bytes l.image ∷ string_bytes l.log ∷ []) (AnOption l.given) l.place (texts l.rest);
   place : l.place + length l.rest ≡ 3 + length l.words;
   dump : IsBelow (3 + length l.words) l.given.dump;
   ranges : AreInRange l.given;

@@ -20,7 +20,8 @@ returns-then-not-goes_on c =
     record {
       order = omega arith;
       within = omega arith;
-      opens = λ more. ap (λ p. rows (p ++ more)) piece ∙ row_ends [] (take (at - from) (drop from hs)) c.loop-at.name c.loop-at.bytes h row c.loop-at.invariant.told ends refl refl more;
+      opens = λ more. ap (λ p. rows (p ++ more)) piece
+          ∙ row_ends [] (take (at - from) (drop from hs)) c.loop-at.name c.loop-at.bytes h row c.loop-at.invariant.told ends refl refl more;
     }
 
 pub loop-at-preserved : goal.loop-at-preserved
@@ -39,7 +40,9 @@ loop-at-preserved c =
     let bytes_before = c.loop-at.invariant.bytes in
     let on : goes_on h ≡ true = sym c.goes_on.ensures.value ∙ c.if-not-goes_on.false in
     record {
-      told = λ more. ap (λ p. rows (p ++ more)) piece ∙ row_goes_on [] (take (at - from) (drop from hs)) c.loop-at.name c.loop-at.bytes (c.loop-at.name + h.name) (c.loop-at.bytes + h.bytes) h c.loop-at.invariant.told on refl refl more;
+      told = λ more. ap (λ p. rows (p ++ more)) piece
+          ∙ row_goes_on [] (take (at - from) (drop from hs)) c.loop-at.name c.loop-at.bytes (c.loop-at.name + h.name)
+          (c.loop-at.bytes + h.bytes) h c.loop-at.invariant.told on refl refl more;
       order = omega arith;
       name = omega arith;
       bytes = omega arith;

@@ -10,7 +10,8 @@ loop-name-init c =
     let name_zero : row.name - row.name ≡ 0 = omega arith in
     let bytes_zero : row.bytes - row.bytes ≡ 0 = omega arith in
     record {
-      told = λ more. closed_append hs c.requires.closed more ∙ ap (λ k. rows hs ++ rows_after k 0 more) (sym name_zero) ∙ ap (λ k. rows hs ++ rows_after (row.name - row.name) k more) (sym bytes_zero);
+      told = λ more. closed_append hs c.requires.closed more ∙ ap (λ k. rows hs ++ rows_after k 0 more) (sym name_zero)
+          ∙ ap (λ k. rows hs ++ rows_after (row.name - row.name) k more) (sym bytes_zero);
       name = omega arith;
       bytes = omega arith;
       room = c.requires.room;

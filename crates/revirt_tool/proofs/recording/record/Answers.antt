@@ -1,9 +1,11 @@
-use Rattle.revirt_tool.specs.Recorded.{wish_by}
+use Rattle.revirt_tool.specs.Promise.{wish_by}
 use Rattle.revirt_tool.proofs.Keeping.{records, one_count}
 use Rattle.revirt_tool.proofs.recording.record.Goals as goal
 
 pub keep_run-requires-clause-counts : goal.keep_run-requires-clause-counts
-keep_run-requires-clause-counts g c = one_count c.in-Ok.image c.args.request.now.limit c.args.request.now.log_limit c.in-Ok-record_one.field-0.log c.in-Ok-record_one.field-0.ended c.in-Ok-record_one.ensures.run
+keep_run-requires-clause-counts g c =
+    one_count c.in-Ok.image c.args.request.now.limit c.args.request.now.log_limit c.in-Ok-record_one.field-0.log c.in-Ok-record_one.field-0.ended
+    c.in-Ok-record_one.ensures.run
 
 pub returns-clause-records : goal.returns-clause-records
 returns-clause-records g c =

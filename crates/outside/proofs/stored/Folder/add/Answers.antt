@@ -2,6 +2,7 @@ use Rattle.std.proofs.Common.{◌≡◌, ◌+◌, ◌*◌, ◌/◌, ◌≤◌, �
 use Rattle.std.proofs.lemmas.List.{length-append}
 use Rattle.outside.specs.declared.heads.Row.{Row}
 use Rattle.outside.specs.Rows.{files, sizes, rows}
+use Rattle.outside.specs.Stored.{contents}
 use Rattle.outside.specs.Files.{are_apart, lookup, total}
 use Rattle.outside.proofs.Names.{apart_from, apart_to, lookup_added, lookup_added_other, total_append}
 use Rattle.outside.proofs.Told.{heads_length}
@@ -11,7 +12,8 @@ use Rattle.outside.proofs.stored.Folder.add.Goals as goal
 pub push_row-requires-clause-room : goal.push_row-requires-clause-room
 push_row-requires-clause-room c =
     let s = c.args.self.now in
-    let most = room_for_heads c.args.name.now c.args.bytes.now s.heads.items s.text.items s.room s.sized (apart_from (files (rows s.heads.items) s.text.items) s.apart) s.closed c.requires.absent c.requires.room in
+    let most = room_for_heads c.args.name.now c.args.bytes.now s.heads.items s.text.items s.room s.sized
+    (apart_from (files (rows s.heads.items) s.text.items) s.apart) s.closed c.requires.absent c.requires.room in
     let parts : s.room ≤ 255 * (s.room / 255) + 254 = omega arith in
     omega (arith, most, parts, s.heads_reserved)
 
@@ -77,45 +79,16 @@ returns-clause-files c =
 
 pub returns-clause-held : goal.returns-clause-held
 returns-clause-held c =
-    let s = c.args.self.now in
-    let name = c.args.name.now in
-    let bytes = c.args.bytes.now in
-    let row : Row = record { name = length name; bytes = length bytes } in
-    let text_is : c.put-2.new.text.items ≡ (s.text.items ++ name) ++ bytes = c.put-2.ensures.items ∙ ap (λ t. t ++ bytes) c.put.ensures.items in
-    let rows_is : rows c.push_row.new.heads.items ≡ rows s.heads.items ++ row ∷ [] = c.push_row.ensures.rows in
-    let all : files (rows c.push_row.new.heads.items) c.put-2.new.text.items ≡ files (rows s.heads.items) s.text.items ++ (name, bytes) ∷ [] =
-    ap (λ rs. files rs c.put-2.new.text.items) rows_is
-    ∙ ap (λ u. files (rows s.heads.items ++ row ∷ []) u) text_is
-    ∙ files_added name bytes (rows s.heads.items) s.text.items row refl refl s.sized in
-    ap (lookup name) all ∙ lookup_added name bytes (files (rows s.heads.items) s.text.items) c.requires.absent
+    ap (lookup c.args.name.now) (returns-clause-files c)
+    ∙ lookup_added c.args.name.now c.args.bytes.now (contents c.args.self.now) c.requires.absent
 
 pub returns-clause-others : goal.returns-clause-others
 returns-clause-others c n other =
-    let s = c.args.self.now in
-    let name = c.args.name.now in
-    let bytes = c.args.bytes.now in
-    let row : Row = record { name = length name; bytes = length bytes } in
-    let text_is : c.put-2.new.text.items ≡ (s.text.items ++ name) ++ bytes = c.put-2.ensures.items ∙ ap (λ t. t ++ bytes) c.put.ensures.items in
-    let rows_is : rows c.push_row.new.heads.items ≡ rows s.heads.items ++ row ∷ [] = c.push_row.ensures.rows in
-    let all : files (rows c.push_row.new.heads.items) c.put-2.new.text.items ≡ files (rows s.heads.items) s.text.items ++ (name, bytes) ∷ [] =
-    ap (λ rs. files rs c.put-2.new.text.items) rows_is
-    ∙ ap (λ u. files (rows s.heads.items ++ row ∷ []) u) text_is
-    ∙ files_added name bytes (rows s.heads.items) s.text.items row refl refl s.sized in
-    ap (lookup n) all ∙ lookup_added_other name n bytes (files (rows s.heads.items) s.text.items) other
+    ap (lookup n) (returns-clause-files c) ∙ lookup_added_other c.args.name.now n c.args.bytes.now (contents c.args.self.now) other
 
 pub returns-clause-total : goal.returns-clause-total
 returns-clause-total c =
-    let s = c.args.self.now in
-    let name = c.args.name.now in
-    let bytes = c.args.bytes.now in
-    let row : Row = record { name = length name; bytes = length bytes } in
-    let text_is : c.put-2.new.text.items ≡ (s.text.items ++ name) ++ bytes = c.put-2.ensures.items ∙ ap (λ t. t ++ bytes) c.put.ensures.items in
-    let rows_is : rows c.push_row.new.heads.items ≡ rows s.heads.items ++ row ∷ [] = c.push_row.ensures.rows in
-    let all : files (rows c.push_row.new.heads.items) c.put-2.new.text.items ≡ files (rows s.heads.items) s.text.items ++ (name, bytes) ∷ [] =
-    ap (λ rs. files rs c.put-2.new.text.items) rows_is
-    ∙ ap (λ u. files (rows s.heads.items ++ row ∷ []) u) text_is
-    ∙ files_added name bytes (rows s.heads.items) s.text.items row refl refl s.sized in
-    let parts = total_append (files (rows s.heads.items) s.text.items) ((name, bytes) ∷ []) in
-    let one : total ((name, bytes) ∷ []) ≡ length name + length bytes = omega arith in
-    let same = ap total all in
-    omega arith
+    let parts = total_append (contents c.args.self.now) ((c.args.name.now, c.args.bytes.now) ∷ []) in
+    let one : total ((c.args.name.now, c.args.bytes.now) ∷ []) ≡ length c.args.name.now + length c.args.bytes.now = omega arith in
+    let same = ap total (returns-clause-files c) in
+    omega (arith, parts, one, same)

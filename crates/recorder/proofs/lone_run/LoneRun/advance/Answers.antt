@@ -12,7 +12,8 @@ pub returns-in_default : goal.returns-in_default
 returns-in_default c =
     let test = c.loop-self-test.true in
     let same = ap (λ x. x.count) c.self.view_is in
-    let p = paused c.args.self.now c.loop-self.self c.step-stepped.new.self c.args.until c.step-stepped.result c.loop-self.invariant (omega (arith, test, same)) c.step-stepped.ensures c.in_default.not-Moved in
+    let p = paused c.args.self.now c.loop-self.self c.step-stepped.new.self c.args.until c.step-stepped.result c.loop-self.invariant
+    (omega (arith, test, same)) c.step-stepped.ensures c.in_default.not-Moved in
     record { leg = p.0; held = p.1; pages = p.2 }
 
 pub returns-clause-held : goal.returns-clause-held

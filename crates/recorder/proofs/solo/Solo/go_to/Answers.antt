@@ -14,7 +14,8 @@ leg-requires-clause-limit c =
     omega (arith, same, less)
 
 pub returns-in-Moved : goal.returns-in-Moved
-returns-in-Moved c = λ o. (went_on o o o c.args.self.now c.gains.self c.leg.new.self (c.gains.invariant.0 o) (c.in-Moved.ensures o).went, (c.in-Moved.ensures o).pauses)
+returns-in-Moved c =
+    λ o. (went_on o o o c.args.self.now c.gains.self c.leg.new.self (c.gains.invariant.0 o) (c.in-Moved.ensures o).went, (c.in-Moved.ensures o).pauses)
 
 pub returns-in-AtDevice : goal.returns-in-AtDevice
 returns-in-AtDevice c = λ o.

@@ -39,7 +39,8 @@ returns g c =
       refl,
       record {
         sound = c.requires;
-        running = is_nothing c.args.self.now.devices.stop (sym (ap (λ x. is_some x.devices.stop) c.self.view_is) ∙ sym (ap is_some c.stop.ensures) ∙ sym c.is_some.ensures ∙ c.if-is_some.false);
+        running = is_nothing c.args.self.now.devices.stop
+            (sym (ap (λ x. is_some x.devices.stop) c.self.view_is) ∙ sym (ap is_some c.stop.ensures) ∙ sym c.is_some.ensures ∙ c.if-is_some.false);
         below = omega (arith, count, limit, is, other, most);
         polled = omega (arith, count, next, again, early, pause);
       },

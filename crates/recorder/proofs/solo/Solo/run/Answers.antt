@@ -7,7 +7,9 @@ pub turns-init : goal.turns-init
 turns-init g c = (went_nowhere c.args.sources.now c.args.self.now c.requires, refl)
 
 pub returns-in-Err : goal.returns-in-Err
-returns-in-Err g c = ends_on c.args.sources.now c.turns.sources c.turn.new.sources c.args.self.now c.turns.self c.turn.new.self c.in-Err.ended c.turns.invariant.0 c.turns.invariant.1 c.in-Err.ensures
+returns-in-Err g c =
+    ends_on c.args.sources.now c.turns.sources c.turn.new.sources c.args.self.now c.turns.self c.turn.new.self c.in-Err.ended c.turns.invariant.0
+    c.turns.invariant.1 c.in-Err.ensures
 
 pub turns-preserved : goal.turns-preserved
 turns-preserved g c = (

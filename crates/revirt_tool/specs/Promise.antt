@@ -1,5 +1,6 @@
 -- What recording a run of one hart keeps and reports: the promise of the program (docs/recorder.md, docs/replay.md).
 use Rattle.std.specs.Prelude.{ℕ, zero, suc, ◌≡◌, ◌≢◌, ◌≤◌, ◌++◌, ◌∷◌, [], Bool, true, false, List, length, replicate, slice_get, Option, Some, None, option_map, unwrap_or, IfSome, IsTrue, Ok, Err}
+use Rattle.outside.specs.Seen.{SeenShelf, Holds}
 use Rattle.rv_words.specs.declared.shared.Cause.{Cause}
 use Rattle.rv_words.specs.declared.shared.Cause.TheVariants as causes
 use Rattle.elf_image.specs.Image.{Image, start_digest}
@@ -10,21 +11,22 @@ use Rattle.flat_machine.specs.Runs.{flat, final_of}
 use Rattle.log_entry.specs.declared.log.Entry.{Entry}
 use Rattle.log_entry.specs.declared.log.Entry.TheVariants.{End}
 use Rattle.log_entry.specs.declared.log.Log.{Log}
+use Rattle.log_entry.specs.Parts.{unit_of}
 use Rattle.log_entry.specs.Room.{log_without_room}
 use Rattle.log_format.specs.Grammar.{spelling, reading}
 use Rattle.order_rules.specs.Orderly.{IsOrderly}
 use Rattle.replay_model.specs.Board.{board}
 use Rattle.replay_model.specs.State.{Replay, start}
-use Rattle.replay_model.specs.Items.{IsFullOrder}
+use Rattle.replay_model.specs.Items.{IsFullOrder, story}
 use Rattle.replay_model.specs.Acts.{acts_of}
 use Rattle.replay_model.specs.Outcome.{Done, IsOutcome}
-use Rattle.recorder.specs.Outside.{Outside}
+use Rattle.recorder.specs.Sources.{Sources}
 use Rattle.recorder.specs.Kept.{Comes}
 use Rattle.report_view.specs.Report.{report}
+use Rattle.command_words.specs.Texts.{word_at}
 use Rattle.command_words.specs.Grammar.{job_of}
 use Rattle.command_words.specs.declared.job.Job.{Job}
 use Rattle.command_words.specs.declared.job.Job.TheVariants.{Record}
-use Rattle.revirt_tool.specs.World.{Shelf}
 use Rattle.revirt_tool.specs.declared.recording.Request.{Request}
 
 -- what the words of a recording ask for
@@ -38,15 +40,26 @@ pub record Wish : Type 0 where
 
 -- a wish by its names
 abbrev pub wish_by : Request → Wish
-wish_by r = record { image = r.image.now; log = r.log.now; dump = option_map (λ d. d.now) r.dump; pages = r.pages; limit = r.limit; log_limit = r.log_limit }
-
-abbrev pub word_at : List (List ℕ) → ℕ → List ℕ
-word_at words place = unwrap_or (slice_get words place) []
+wish_by r = record {
+  image = r.image.now;
+  log = r.log.now;
+  dump = option_map (λ d. d.now) r.dump;
+  pages = r.pages;
+  limit = r.limit;
+  log_limit = r.log_limit;
+}
 
 -- a recording of one hart is served
 abbrev pub wish_of : List (List ℕ) → Job → Option Wish
 wish_of words (Record image log (suc zero) pages limit log_limit dump rounds) =
-    Some (record { image = word_at words image; log = word_at words log; dump = option_map (word_at words) dump; pages = pages; limit = limit; log_limit = log_limit })
+    Some (record {
+      image = word_at words image;
+      log = word_at words log;
+      dump = option_map (word_at words) dump;
+      pages = pages;
+      limit = limit;
+      log_limit = log_limit;
+    })
 wish_of words job = None
 
 abbrev pub wish : List (List ℕ) → Option Wish
@@ -57,8 +70,8 @@ abbrev pub longest_image : ℕ
 longest_image = 67108864
 
 -- the image that was fetched, which the shelf holds under its name, where it tells
-pub record IsFetched (w : Wish) (s : Shelf) (file : List ℕ) : Type 0 where
-  pub held : IsTrue s.tells → s.held w.image ≡ Some file
+pub record IsFetched (w : Wish) (s : SeenShelf) (file : List ℕ) : Type 0 where
+  pub held : Holds s w.image file
   pub within : length file ≤ longest_image
 
 -- the log is of what the words ask and of the image's start, and has one stream
@@ -73,31 +86,42 @@ is_fault causes.Fault = true
 is_fault cause = false
 
 -- the names of the log and of the dump hold these, and every other name what it held
-pub record HoldsNow (w : Wish) (log dump : List ℕ) (s t : Shelf) : Type 0 where
-  pub log_held : IsTrue t.tells → t.held w.log ≡ Some log
+pub record HoldsNow (w : Wish) (log dump : List ℕ) (s t : SeenShelf) : Type 0 where
+  pub log_held : Holds t w.log log
   pub dump_held : IsTrue t.tells → IfSome w.dump (λ name. t.held name ≡ Some dump)
   pub others : IsTrue t.tells → (n : List ℕ) → n ≢ w.log → w.dump ≢ Some n → t.held n ≡ s.held n
   pub faults : t.faults ≡ s.faults
 
+-- an order obeys the log of one hart over an image, is full, and ends in this state
+abbrev pub EndsFull : Log → Image → List ℕ → Replay FlatState → Type 0
+EndsFull log image order end = IsFullOrder (board (unit_of log)) log (start log (flat_at_start image 1)) order end
+
+-- every full order ends where this one does, drives the flat machine from the image's start there, and each hart has the same story
+abbrev pub AllEndThere : (log : Log) (image : Image) (order : List ℕ) (end : Replay FlatState) → EndsFull log image order end → Type 0
+AllEndThere log image order end full =
+    (other : List ℕ) (t : Replay FlatState) (one : EndsFull log image other t)
+    → (t ≡ end)
+    × (flat image 1 (acts_of (board (unit_of log)) log (start log (flat_at_start image 1)) other) ≡ Some end.flat)
+    × ((h : ℕ) → story (board (unit_of log)) log h one.0 ≡ story (board (unit_of log)) log h full.0)
+
 -- A run was recorded of the image, and its log is kept. The log is orderly, and is read again from what is kept. The order that
 -- names hart 0 once per item obeys it and is full, and every full order that obeys it drives the flat machine from the image's
--- start to the state that is reported; a replay of the log is done there. What console and clock answered, and the bytes that the
--- console took, are those of the log and of that state.
-pub record Keeps (w : Wish) (text : List ℕ) (fault : Bool) (s t : Shelf) (o p : Outside) : Type 0 where
+-- start to the state that is reported, with the same story of each hart; a replay of the log is done there. What console and
+-- clock answered, and the bytes that the console took, are those of the log and of that state.
+pub record KeepsRecording (w : Wish) (text : List ℕ) (fault : Bool) (s t : SeenShelf) (o p : Sources) : Type 0 where
   pub file : List ℕ
   pub fetched : IsFetched w s file
   pub accepted : broken_rule w.pages file ≡ None
   pub log : Log
   pub entries : List Entry
   pub end : Replay FlatState
-  pub head : HasHead w (image_of w.pages file) (entries ++ End (board.count end.flat 0) ∷ []) log
+  pub head : HasHead w (image_of w.pages file) (entries ++ End ((board (unit_of log)).count end.flat 0) ∷ []) log
   pub comes : Comes (image_of w.pages file) w.limit w.log_limit o p log (final_of end.flat log.cause)
   pub orderly : IsOrderly log
   pub items : ℕ
-  pub full : IsFullOrder board log (start log (flat_at_start (image_of w.pages file) 1)) (replicate items 0) end
-  pub every : (order : List ℕ) (t : Replay FlatState) → IsFullOrder board log (start log (flat_at_start (image_of w.pages file) 1)) order t
-      → (t ≡ end) × (flat (image_of w.pages file) 1 (acts_of board log (start log (flat_at_start (image_of w.pages file) 1)) order) ≡ Some end.flat)
-  pub replayed : IsOutcome board log (flat_at_start (image_of w.pages file) 1) (Done end.flat)
+  pub full : EndsFull log (image_of w.pages file) (replicate items 0) end
+  pub every : AllEndThere log (image_of w.pages file) (replicate items 0) end full
+  pub replayed : IsOutcome (board (unit_of log)) log (flat_at_start (image_of w.pages file) 1) (Done end.flat)
   pub kept : HoldsNow w (spelling log) (end.flat.memory ++ end.flat.devices.sent) s t
   pub within : length (spelling log) ≤ w.log_limit
   pub again : reading (spelling log) ≡ Ok (log_without_room log)
