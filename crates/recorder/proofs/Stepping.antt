@@ -1,8 +1,7 @@
 -- Each step of the recorder is a recorded item.
-use Rattle.std.proofs.Common.{◌≡◌, ℕ, zero, suc, ◌+◌, ◌%◌, ◌<◌, ◌≤◌, ◌==◌, Bool, true, false, List, [], ◌∷◌, length, Option, Some, None, find, slice_get, slice_index, slice_set, is_some, nat_lt, refl, sym, ap, ap₂, ◌∙◌, arith, cond, if◌then◌else◌, ◌||◌, not, true≢false, inl, inr}
+use Rattle.std.proofs.Common.{◌≡◌, ℕ, zero, suc, ◌+◌, ◌%◌, ◌<◌, ◌≤◌, ◌==◌, Bool, false, List, [], ◌∷◌, length, Option, Some, None, find, slice_get, slice_index, slice_set, is_some, nat_lt, refl, sym, ap, ap₂, ◌∙◌, arith, if◌then◌else◌, ◌||◌, not}
 use Rattle.std.specs.Option.{option_map, option_and_then}
 use Rattle.std.proofs.lemmas.Bool.{eq-eqb}
-use Rattle.std.proofs.lemmas.Bool.Decides.{leb_tells}
 use Rattle.std.proofs.lemmas.List.{length_push}
 use Rattle.rv_words.specs.declared.shared.Access.{Access}
 use Rattle.rv_words.specs.declared.shared.Input.{Input}

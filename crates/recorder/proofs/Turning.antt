@@ -1,5 +1,5 @@
 -- Turns, put together.
-use Rattle.std.proofs.Common.{◌≡◌, ℕ, ◌<◌, ◌≤◌, false, [], Option, Some, None, Result, Ok, Err, is_some, refl, ap, ◌∙◌, subst, arith, true≢false}
+use Rattle.std.proofs.Common.{◌≡◌, ℕ, ◌<◌, ◌≤◌, false, [], Result, Ok, Err, ap, ◌∙◌, subst, arith}
 use Rattle.rv_words.specs.declared.shared.Cause.{Cause}
 use Rattle.rv_words.specs.declared.shared.Cause.TheVariants as causes
 use Rattle.outside.specs.Causes.{Rose}
