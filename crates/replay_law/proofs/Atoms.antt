@@ -31,7 +31,7 @@ use Rattle.run_model.proofs.Aheads.{ahead_of_word}
 use Rattle.run_model.proofs.Moves.{NotWants, entry_need, next_is, there_by, free_write}
 use Rattle.run_model.proofs.DataPlaces.{DataAreThere}
 use Rattle.replay_law.specs.Atomics.{Atomic, atomic_at, value_of, on_word, next_atomic}
-use Rattle.replay_law.proofs.Lasting.{number_there}
+use Rattle.replay_law.proofs.GoodStates.{number_there}
 use Rattle.replay_law.proofs.Views.{Shape, Sound, view, view_agrees}
 use Rattle.replay_law.proofs.Deeds.{Done, not_wants}
 use Rattle.replay_law.proofs.Boards.{view_stays, index_of, same_where}

@@ -9,7 +9,7 @@ use Rattle.order_rules.specs.Cursor.{Cursor, first_left, guard_is_met, taken, ta
 use Rattle.order_rules.specs.Orderly.{Keeps, o5, o8}
 use Rattle.order_rules.proofs.Takings.{took, takes, takings_commute, ordinals_name}
 use Rattle.replay_model.specs.Items.{Item, Ended, Move, Makes}
-use Rattle.replay_law.proofs.Went.{cursor_after}
+use Rattle.replay_law.proofs.Steps.{cursor_after}
 
 abbrev pub guard_of : Cursor → Item → Bool
 guard_of c (Makes e) = guard_is_met c e

@@ -42,7 +42,7 @@ use Rattle.run_model.proofs.Moves.{NotWants, fetched_where, next_is, move_made, 
 use Rattle.run_model.proofs.AfterMove.{stored_length, stored_unit, agrees_after, differ_after, crew_after, one_after}
 use Rattle.run_model.proofs.Handover.{hart_agrees, move_agrees}
 use Rattle.replay_law.proofs.Local.{actor, HasPages}
-use Rattle.replay_law.proofs.Judged.{nothing}
+use Rattle.replay_law.proofs.Verdicts.{nothing}
 use Rattle.replay_law.proofs.Views.{Shape, Sound, on_board}
 
 abbrev pub touched_run : Run → ℕ → Devices × ℕ → Run × Devices

@@ -26,10 +26,10 @@ use Rattle.shared_types.proofs.Lists.{set_here}
 use Rattle.std.proofs.lemmas.Option.{slice_get_within, get_or_from_slice_get}
 use Rattle.replay_law.specs.Laws.{IsReplayable, first_replay, FullOrderIsThere}
 use Rattle.replay_law.proofs.Local.{actor}
-use Rattle.replay_law.proofs.Went.{IsMade, act_of, flat_after, cursor_after, step_went}
+use Rattle.replay_law.proofs.Steps.{IsMade, act_of, flat_after, cursor_after, step_went}
 use Rattle.replay_law.proofs.Cursors.{index_there, left_stays}
-use Rattle.replay_law.proofs.Judged.{ActIs, act_is}
-use Rattle.replay_law.proofs.Meets.{makes_in, finds_after}
+use Rattle.replay_law.proofs.Verdicts.{ActIs, act_is}
+use Rattle.replay_law.proofs.Pairs.{makes_in, finds_after}
 use Rattle.replay_law.proofs.Views.{Fits, Sound, shape_of}
 use Rattle.replay_law.proofs.Deeds.{deed, chosen}
 use Rattle.replay_law.proofs.Boards.{made_of, board_local, index_of}

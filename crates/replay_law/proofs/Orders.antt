@@ -30,7 +30,7 @@ use Rattle.run_model.proofs.Start.{row_of_nobody, held_of_nobody}
 use Rattle.replay_law.specs.Laws.{IsReplayable, first_flat, first_replay, ItemsCommute, EqualSharesAgree, AllOrdersAgree, LeastEndsThere, OrdersTellOutcome}
 use Rattle.replay_law.proofs.Views.{Fits, shape_of}
 use Rattle.replay_law.proofs.Boards.{board_local}
-use Rattle.replay_law.proofs.Lasting.{IsGood, steps_last, steps_meet}
+use Rattle.replay_law.proofs.GoodStates.{IsGood, steps_last, steps_meet}
 use Rattle.orders_law.proofs.Bounds.{least_there}
 
 pub no_number : (k page : ℕ) → slice_index (replicate k 0) page ≡ 0

@@ -4,7 +4,7 @@ use Rattle.std.proofs.lemmas.List.{length-set}
 use Rattle.rv_words.specs.declared.shared.Mode.{Mode}
 use Rattle.order_rules.specs.Holders.{Holders, row, held, with_held}
 use Rattle.shared_types.proofs.Lists.{set_there}
-use Rattle.replay_law.proofs.Went.{holders_by}
+use Rattle.replay_law.proofs.Steps.{holders_by}
 
 pub sets_swap : {X : Type 0} (xs : List X) (i j : ℕ) (a b : X) → i ≢ j → slice_set (slice_set xs i a) j b ≡ slice_set (slice_set xs j b) i a
 sets_swap [] i j a b n = refl

@@ -29,8 +29,8 @@ use Rattle.shared_types.proofs.Lists as lists
 use Rattle.shared_types.proofs.Lists.{bound_to, is_there}
 use Rattle.replay_law.specs.Laws.{IsReplayable, first_replay, CanGoGoes}
 use Rattle.replay_law.proofs.Local.{is_on_devices}
-use Rattle.replay_law.proofs.Went.{IsMade, act_of, flat_after, cursor_after, step_went, step_goes}
-use Rattle.replay_law.proofs.Judged.{ActIs, act_is, passed, judge, met, guard_met}
+use Rattle.replay_law.proofs.Steps.{IsMade, act_of, flat_after, cursor_after, step_went, step_goes}
+use Rattle.replay_law.proofs.Verdicts.{ActIs, act_is, passed, judge, met, guard_met}
 use Rattle.replay_law.proofs.Views.{Sound, shape_of}
 use Rattle.replay_law.proofs.Deeds.{chosen, touched_run, polled_run, answered}
 use Rattle.replay_law.proofs.Boards.{made_of, calm}

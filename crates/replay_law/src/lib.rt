@@ -2,7 +2,8 @@
 //! promise the laws.
 #![tactic(auto)]
 
-ghost use Rattle.replay_law.specs.Laws.{CanGoGoes, ItemsCommute, EqualSharesAgree, AllOrdersAgree, AtomicsAgree, FullOrderIsThere, LeastEndsThere, OrdersTellOutcome};
+ghost use Rattle.replay_law.specs.Laws.{CanGoGoes, ItemsCommute, EqualSharesAgree, AllOrdersAgree, AtomicsAgree};
+ghost use Rattle.replay_law.specs.Laws.{FullOrderIsThere, LeastEndsThere, OrdersTellOutcome};
 
 /// A hart that can go makes its item: an order is full only where no hart can go.
 pub fn can_go_goes()

@@ -1,5 +1,5 @@
 use Rattle.replay_law.proofs.Orders.{all_orders_agree}
-use Rattle.replay_law.proofs.Watched.{atomics_agree}
+use Rattle.replay_law.proofs.AtomicOrders.{atomics_agree}
 use Rattle.replay_law.proofs.all_orders_agree.Goals as goal
 
 pub returns-clause-state : goal.returns-clause-state

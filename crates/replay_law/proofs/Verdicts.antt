@@ -18,7 +18,7 @@ use Rattle.replay_model.specs.State.{Replay, want}
 use Rattle.replay_model.specs.Items.{Item, Ended, Move, Makes, Verdict, Holds, CanGo, HasDiverged, judged, tests, verdict_on}
 use Rattle.shared_types.proofs.Lists.{find_same}
 use Rattle.replay_law.proofs.Local.{HasPages, HasDevices, actor}
-use Rattle.replay_law.proofs.Went.{is_lost, act_with, act_of}
+use Rattle.replay_law.proofs.Steps.{is_lost, act_with, act_of}
 use Rattle.replay_law.proofs.Cursors.{guard_of}
 
 abbrev diverges : Verdict → Bool

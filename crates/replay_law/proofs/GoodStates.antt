@@ -29,11 +29,11 @@ use Rattle.order_rules.specs.Laws.{Follow}
 use Rattle.order_rules.proofs.Follow.{still_follow, follow_is_crew, held_here, held_elsewhere}
 use Rattle.std.proofs.lemmas.Option.{slice_get_within, get_or_from_slice_get}
 use Rattle.replay_law.proofs.Local.{IsSound, IsLocal}
-use Rattle.replay_law.proofs.Went.{IsMade, act_of, flat_after, built, step_went}
+use Rattle.replay_law.proofs.Steps.{IsMade, act_of, flat_after, built, step_went}
 use Rattle.replay_law.proofs.Cursors.{guard_of, IsLeft}
 use Rattle.replay_law.proofs.Tables.{held_stays, table_size, rows_size}
-use Rattle.replay_law.proofs.Judged.{ActIs, guard_met, act_is}
-use Rattle.replay_law.proofs.Meets.{is_left, steps_commute}
+use Rattle.replay_law.proofs.Verdicts.{ActIs, guard_met, act_is}
+use Rattle.replay_law.proofs.Pairs.{is_left, steps_commute}
 
 pub number_there : (k : ℕ) (o : Option ℕ) → is_number k o ≡ true → o ≡ Some k
 number_there k None e = absurd (true≢false (sym e))

@@ -15,10 +15,10 @@ use Rattle.replay_model.specs.Flat.{Flat}
 use Rattle.replay_model.specs.State.{Replay, want}
 use Rattle.replay_model.specs.Items.{Item, Ended, Move, Makes, CanGo, item_at, verdict_on, told_of, next_item, step}
 use Rattle.replay_law.proofs.Local.{actor, is_on_devices, HasPages, HasDevices, IsUndisturbed, IsSound, IsLocal}
-use Rattle.replay_law.proofs.Went.{IsMade, act_with, hold_in, act_of, flat_after, cursor_after, built, step_went, step_goes}
+use Rattle.replay_law.proofs.Steps.{IsMade, act_with, hold_in, act_of, flat_after, cursor_after, built, step_went, step_goes}
 use Rattle.replay_law.proofs.Cursors.{guard_of, IsLeft, left_stays, takings, one_ordinal}
 use Rattle.replay_law.proofs.Tables.{held_stays, tables_meet}
-use Rattle.replay_law.proofs.Judged.{needs_devices, Finds, ActIs, guard_met, verdict_stays, act_stays, act_is}
+use Rattle.replay_law.proofs.Verdicts.{needs_devices, Finds, ActIs, guard_met, verdict_stays, act_stays, act_is}
 
 abbrev pub makes_in : Item → Option Entry
 makes_in (Makes e) = Some e

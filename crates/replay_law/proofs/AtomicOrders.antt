@@ -19,10 +19,10 @@ use Rattle.shared_types.proofs.Lists.{mapped}
 use Rattle.replay_law.specs.Atomics.{Atomic, next_atomic, item_atomics, atomics_along}
 use Rattle.replay_law.specs.Laws.{IsReplayable, first_replay, AtomicsAgree}
 use Rattle.replay_law.proofs.Local.{actor}
-use Rattle.replay_law.proofs.Went.{act_of, flat_after, Went, step_went}
+use Rattle.replay_law.proofs.Steps.{act_of, flat_after, Went, step_went}
 use Rattle.replay_law.proofs.Cursors.{left_stays}
-use Rattle.replay_law.proofs.Judged.{ActIs, act_is}
-use Rattle.replay_law.proofs.Meets.{finds_after}
+use Rattle.replay_law.proofs.Verdicts.{ActIs, act_is}
+use Rattle.replay_law.proofs.Pairs.{finds_after}
 use Rattle.replay_law.proofs.Views.{Fits, Sound, shape_of}
 use Rattle.replay_law.proofs.Boards.{made_of, board_local}
 use Rattle.replay_law.proofs.Atoms.{has_some, atomic_stays, atomics_apart}
