@@ -1,2 +1,2 @@
-pub mod GoingOn
+pub mod NoDeadlock
 pub mod Outcomes

@@ -1,21 +1,23 @@
 -- A replay has an outcome, and one alone.
-use Rattle.std.proofs.Common.{◌≡◌, ℕ, zero, suc, ◌<◌, ◌&&◌, Bool, true, false, List, [], ◌∷◌, ◌++◌, length, filter_map, Option, Some, None, true≢false, refl, sym, ap, ap₂, ◌∙◌, inl, inr, ◌⊎◌, arith, if◌then◌else◌}
-use Rattle.std.specs.List.{list_all, cons_option}
+use Rattle.std.proofs.Common.{◌≡◌, ℕ, zero, suc, ◌<◌, Bool, true, false, List, [], ◌∷◌, ◌++◌, length, filter_map, Option, Some, None, true≢false, refl, sym, ap}
+use Rattle.std.proofs.Common.{◌∙◌, inl, inr, ◌⊎◌, arith, if◌then◌else◌}
+use Rattle.std.specs.List.{cons_option}
 use Rattle.std.specs.Option.{option_map}
 use Rattle.std.proofs.lemmas.Bool.{cases_eq}
 use Rattle.std.proofs.lemmas.List.Elements.{filter_map-append}
-use Rattle.std.proofs.lemmas.List.Folds.{list_all-append}
 use Rattle.std.proofs.lemmas.Option.{none-some, same_Some}
+use Rattle.orders_law.proofs.Below.{all_below}
 use Rattle.orders_law.specs.Orders.{below}
 use Rattle.orders_law.proofs.Least.{least_is_one}
 use Rattle.elf_image.specs.Image.{Image}
 use Rattle.log_entry.specs.declared.log.Log.{Log}
+use Rattle.log_entry.specs.Parts.{unit_of}
 use Rattle.flat_machine.specs.State.{FlatState}
 use Rattle.replay_model.specs.Board.{board}
 use Rattle.replay_model.specs.State.{Replay, start}
 use Rattle.replay_model.specs.Items.{Verdict, HasEnded, Holds, CanGo, HasDiverged, Obeys, IsFullOrder, verdict, step}
 use Rattle.replay_model.specs.Outcome.{Outcome, Done, Diverged, rule_of, is_ended, cause_agrees, all_ended, diverged, least_diverged, outcome_at}
-use Rattle.replay_ends.proofs.GoingOn.{nobody_holds_alone}
+use Rattle.replay_ends.proofs.NoDeadlock.{nobody_holds_alone}
 use Rattle.replay_law.specs.Laws.{IsReplayable, first_flat, first_replay}
 use Rattle.replay_ends.specs.Laws.{OutcomeIsThere, OutcomeIsOne}
 use Rattle.replay_law.proofs.Timely.{reached_goes}
@@ -39,11 +41,6 @@ none_below f (suc n) e i l =
       | inr d ↦ none_below f n both.0 i (omega (arith, l, d))
     ]
 
-all_below : (test : ℕ → Bool) (n : ℕ) → ((i : ℕ) → i < n → test i ≡ true) → list_all test (below n) ≡ true
-all_below test zero each = refl
-all_below test (suc n) each =
-    list_all-append test (below n) (n ∷ []) ∙ ap₂ (λ a b. a && b) (all_below test n (λ i l. each i (omega (arith, l)))) (ap (λ b. b && true) (each n (omega arith)))
-
 no_rule : (h : ℕ) (o : Option ℕ) → option_map {U = ℕ × ℕ} (λ rule. (h, rule)) o ≡ None → o ≡ None
 no_rule h None e = refl
 no_rule h (Some k) e = absurd (none-some _ (sym e))
@@ -54,23 +51,29 @@ ended_or_holds Holds none not_can = inr refl
 ended_or_holds CanGo none not_can = absurd (not_can refl)
 ended_or_holds (HasDiverged rule) none not_can = absurd (none-some _ (sym none))
 
-module _ (log : Log) (image : Image) (is : IsReplayable log image) (order : List ℕ) (t : Replay FlatState) (full : IsFullOrder board log (first_replay log image) order t) where
-  obeys : Obeys board log (first_replay log image) order t
+module _ (log : Log) (image : Image) (is : IsReplayable log image) (order : List ℕ) (t : Replay FlatState)
+    (full : IsFullOrder (board (unit_of log)) log (first_replay log image) order t) where
+  obeys : Obeys (board (unit_of log)) log (first_replay log image) order t
   obeys = (full.0, full.1, full.2.leads)
 
   -- where none has diverged all have ended
-  none_left : diverged board log t ≡ [] → all_ended board log t ≡ true
-  none_left none = all_below (λ h. is_ended (verdict board log t h)) (length log.streams) (λ h l. ap is_ended (nobody_holds_alone log (first_flat log image) order t is.orderly obeys each h l))
+  none_left : diverged (board (unit_of log)) log t ≡ [] → all_ended (board (unit_of log)) log t ≡ true
+  none_left none = all_below (λ h. is_ended (verdict (board (unit_of log)) log t h)) (length log.streams)
+      (λ h l. ap is_ended (nobody_holds_alone log (first_flat log image) order t is.orderly obeys each h l))
     where
-      each : (h : ℕ) → h < length log.streams → (verdict board log t h ≡ HasEnded) ⊎ (verdict board log t h ≡ Holds)
+      each : (h : ℕ) → h < length log.streams → (verdict (board (unit_of log)) log t h ≡ HasEnded) ⊎ (verdict (board (unit_of log)) log t h ≡ Holds)
       each h l =
-          ended_or_holds (verdict board log t h) (no_rule h (rule_of (verdict board log t h)) (none_below (λ h. option_map (λ rule. (h, rule)) (rule_of (verdict board log t h))) (length log.streams) none h l))
+          ended_or_holds (verdict (board (unit_of log)) log t h)
+          (no_rule h (rule_of (verdict (board (unit_of log)) log t h))
+          (none_below (λ h. option_map (λ rule. (h, rule)) (rule_of (verdict (board (unit_of log)) log t h))) (length log.streams) none h l))
           (λ go. let m = reached_goes log image order t h is obeys l go in none-some _ (sym (full.2.over h) ∙ m.1))
 
-  comes_to : (outcome : Outcome FlatState) × (outcome_at board log t ≡ Some outcome)
-  comes_to = by (all_ended board log t) (diverged board log t) refl refl where
-    by : (b : Bool) (d : List (ℕ × ℕ)) → all_ended board log t ≡ b → diverged board log t ≡ d
-        → (outcome : Outcome FlatState) × ((if b then Some (if cause_agrees board log t.flat then Done t.flat else Diverged 0 (board.count t.flat 0) 7 t.flat) else least_diverged board log t d) ≡ Some outcome)
+  comes_to : (outcome : Outcome FlatState) × (outcome_at (board (unit_of log)) log t ≡ Some outcome)
+  comes_to = by (all_ended (board (unit_of log)) log t) (diverged (board (unit_of log)) log t) refl refl where
+    by : (b : Bool) (d : List (ℕ × ℕ)) → all_ended (board (unit_of log)) log t ≡ b → diverged (board (unit_of log)) log t ≡ d
+        → (outcome : Outcome FlatState)
+        × ((if b then Some (if cause_agrees (board (unit_of log)) log t.flat then Done t.flat else Diverged 0
+        ((board (unit_of log)).count t.flat 0) 7 t.flat) else least_diverged (board (unit_of log)) log t d) ≡ Some outcome)
     by true d ended are = (_, refl)
     by false [] ended are = absurd (true≢false (sym (none_left are) ∙ ended))
     by false (x ∷ xs) ended are = (_, refl)
@@ -83,5 +86,5 @@ outcome_is_there log image is =
 
 pub outcome_is_one : OutcomeIsOne
 outcome_is_one log first outcome other one two =
-    let same = least_is_one (step board log) (length log.streams) (start log first) one.1.0 two.1.0 one.0 two.0 one.1.1 two.1.1 in
-    same_Some _ _ (sym one.1.2 ∙ ap (outcome_at board log) same.1 ∙ two.1.2)
+    let same = least_is_one (step (board (unit_of log)) log) (length log.streams) (start log first) one.1.0 two.1.0 one.0 two.0 one.1.1 two.1.1 in
+    same_Some _ _ (sym one.1.2 ∙ ap (outcome_at (board (unit_of log)) log) same.1 ∙ two.1.2)

@@ -1,0 +1,2 @@
+pub mod BoardWants
+pub mod LeanRecordings
