@@ -10,6 +10,3 @@ pub use rv_words::{Cause, Input, MAX_HARTS, Mode};
 pub use shared_types::Listed;
 pub use sizes::{entry_size, frame_size, size_in};
 pub use waits::{WaitFor, Waits};
-
-#[cfg(test)]
-mod tests;

@@ -20,6 +20,3 @@ pub use writing::write_log;
 pub fn sizes_are_those_of_the_bytes()
     ensures { HaveTheirSizes }
 {}
-
-#[cfg(test)]
-mod tests;

@@ -1,5 +1,6 @@
 //! Makes a log of so many rounds, writes it, reads it again, puts it in order and takes its least
-//! order. The number of rounds is the word on the command line; a round has four entries.
+//! order. The number of rounds is the word on the command line; a round has four entries. The tests of the crates of
+//! logs and of the directory stand here, so that each of these is proved once.
 #![tactic(auto)]
 
 mod making;
@@ -46,4 +47,10 @@ fn main(rt: HostRuntime) -> Result<()> {
 }
 
 #[cfg(test)]
-mod tests;
+mod bytes_tests;
+#[cfg(test)]
+mod directory_tests;
+#[cfg(test)]
+mod entry_tests;
+#[cfg(test)]
+mod order_tests;

@@ -1,12 +1,14 @@
 //! A log as long as one likes.
 ghost use Rattle.std.specs.Prelude.{◌≡◌, ◌++◌, ◌∷◌, [], IfOk};
+ghost use Rattle.rv_words.specs.Limits.{poll_distance};
 ghost use Rattle.log_entry.specs.declared.log.Entry.TheVariants.{Poll, End};
 
 use log_entry::{Cause, Entries, Entry, Log, Mode, Streams, WaitFor, Waits};
+use rv_words::POLL_DISTANCE;
 use std::alloc::{AllocError, Global};
 
 /// The greatest count of a gain.
-const LAST: u32 = 4095;
+const LAST: u64 = POLL_DISTANCE - 1;
 
 fn waits_for(alloc: Global, wait: Option<WaitFor>) -> Result<Waits, AllocError> {
     let mut waits = Waits::of(Vec::with_capacity(alloc, 1)?);
@@ -54,11 +56,13 @@ fn begin(alloc: Global, ord: u32) -> Result<Vec<Entry>, AllocError>
     Ok(entries)
 }
 
-/// The stream of a hart that ends at count 4,096.
+/// The stream of a hart that ends where the next Poll would be due.
 fn end(mut entries: Vec<Entry>) -> Result<Entries, AllocError>
-    ensures { IfOk result (λ stream. stream ≡ entries.items ++ End 4096 ∷ []) }
+    ensures { IfOk result (λ stream. stream ≡ entries.items ++ End poll_distance ∷ []) }
 {
-    entries.push(Entry::End { count: 4096 })?;
+    entries.push(Entry::End {
+        count: POLL_DISTANCE,
+    })?;
     Ok(Entries::of(entries))
 }
 
@@ -68,7 +72,7 @@ pub(crate) fn long_log(alloc: Global, rounds: u32) -> Result<Log, AllocError> {
     let mut second = begin(alloc, 1)?;
     let mut wait = None;
     for round in 0..rounds {
-        let count = u64::from(round.min(LAST));
+        let count = u64::from(round).min(LAST);
         let seq = round.wrapping_mul(4);
         add_turn(alloc, &mut first, count, seq, wait)?;
         let from_first = Some(WaitFor { hart: 0, count });
@@ -77,7 +81,7 @@ pub(crate) fn long_log(alloc: Global, rounds: u32) -> Result<Log, AllocError> {
     }
     Ok(Log {
         pages: 1,
-        limit: 4096,
+        limit: POLL_DISTANCE,
         image: [0; 32],
         streams: Streams::of(vec![in alloc; end(first)?, end(second)?]?),
         cause: Cause::Limit,

@@ -9,6 +9,3 @@ mod yields;
 
 pub use directory::Directory;
 pub use laws::waits_follow;
-
-#[cfg(test)]
-mod tests;

@@ -1,3 +1,4 @@
+use crate::bytes_tests::SMALLEST;
 use crate::making::long_log;
 use crate::{measure, spell};
 use Refusal::{Disorderly, Malformed};
@@ -58,20 +59,6 @@ fn give_up(count: u64, seq: u32) -> Entry {
         left,
     }
 }
-
-/// The log of one hart that stores 7 to STOP in its third move.
-const SMALLEST: [u8; 123] = [
-    0x52, 0x56, 0x54, 0x4c, 1, 1, 1, 0, // magic, version, harts, pages
-    100, 0, 0, 0, 0, 0, 0, 0, // limit
-    0xe4, 0xd0, 0x10, 0x19, 0x49, 0x99, 0xe7, 0x2f, 0xa6, 0x50, 0x95, 0x5c, 0xac, 0xa4, 0x37, 0xd5,
-    0xa7, 0xfe, 0x14, 0xed, 0x0a, 0xd1, 0x12, 0x12, 0xd4, 0x1e, 0xc4, 0xc7, 0x64, 0x32, 0xf8, 0x05,
-    4, 0, 0, 0, // entries
-    3, 0, 0, 0, 0, 0, 0, 0, 0, 0, 0, 0, 0, 5, 0, 0, 0, 0, 0, 0, 0, 0, // Poll
-    1, 0, 0, 0, 0, 0, 0, 0, 0, 0, 0, 0, 0, 0, 0, 1, 0, // Gain
-    4, 2, 0, 0, 0, 0, 0, 0, 0, 1, 0, 0, 0, 0, 0, 0, 0, 0, 0, 0, 0, 0, // Touch
-    5, 3, 0, 0, 0, 0, 0, 0, 0, // End
-    1, // cause
-];
 
 /// Why bytes are not taken: the offset and the rule of a bad field, or the broken rule, the hart and
 /// the entry.

@@ -1,10 +1,10 @@
-use crate::{ReadError, in_range, read_log, write_log};
 use log_entry::{Cause, Entries, Entry, Input, Log, Mode, Streams, WaitFor, Waits};
+use log_format::{ReadError, in_range, read_log, write_log};
 use std::alloc::Global;
 use std::test::Fail;
 
 /// The log of one hart that stores 7 to STOP in its third move.
-const SMALLEST: [u8; 123] = [
+pub(crate) const SMALLEST: [u8; 123] = [
     0x52, 0x56, 0x54, 0x4c, 1, 1, 1, 0, // magic, version, harts, pages
     100, 0, 0, 0, 0, 0, 0, 0, // limit
     0xe4, 0xd0, 0x10, 0x19, 0x49, 0x99, 0xe7, 0x2f, 0xa6, 0x50, 0x95, 0x5c, 0xac, 0xa4, 0x37, 0xd5,

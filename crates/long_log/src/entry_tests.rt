@@ -1,4 +1,4 @@
-use crate::{
+use log_entry::{
     Cause, Entries, Entry, Input, Log, Mode, Streams, WaitFor, Waits, entry_size, frame_size,
     size_in,
 };

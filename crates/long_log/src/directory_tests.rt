@@ -1,7 +1,7 @@
 ghost use Rattle.std.specs.Prelude.{◌≡◌, ◌≤◌, [], IfOk};
 
-use crate::Directory;
 use log_entry::{Mode, WaitFor, Waits};
+use privilege_directory::Directory;
 use std::test::Fail;
 
 fn no_waits(rt: &HostRuntime) -> Result<Waits, Fail>
