@@ -17,3 +17,4 @@ pub mod Totals
 pub mod Ending
 pub mod Times
 pub mod Timely
+pub mod WorkedAtomics

@@ -1,2 +1,3 @@
 pub mod Atomics
 pub mod Laws
+pub mod Worked

@@ -3,7 +3,13 @@
 #![tactic(auto)]
 
 ghost use Rattle.replay_law.specs.Laws.{CanGoGoes, ItemsCommute, EqualSharesAgree, AllOrdersAgree, AtomicsAgree};
+ghost use Rattle.replay_law.specs.Worked.{AreAtomic};
 ghost use Rattle.replay_law.specs.Laws.{FullOrderIsThere, LeastEndsThere, OrdersTellOutcome};
+
+/// Atomic moves that were worked out by hand are what they should be.
+pub fn worked_atomics()
+    ensures { AreAtomic }
+{}
 
 /// A hart that can go makes its item: an order is full only where no hart can go.
 pub fn can_go_goes()
