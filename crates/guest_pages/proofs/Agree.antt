@@ -1,5 +1,6 @@
 -- Frames and memory agree.
-use Rattle.std.proofs.Common.{◌≡◌, ◌≢◌, ℕ, ◌+◌, ◌-◌, ◌*◌, ◌<◌, ◌≤◌, List, [], ◌∷◌, ◌++◌, take, drop, length, get_or, refl, ap, sym, ◌∙◌, arith, subst, length-append, length-drop, append_assoc, ◌⊎◌, inl, inr}
+use Rattle.std.proofs.Common.{◌≡◌, ◌≢◌, ℕ, ◌+◌, ◌-◌, ◌*◌, ◌<◌, ◌≤◌, List, [], ◌∷◌, ◌++◌, take, drop, length, get_or, refl, ap, sym, ◌∙◌, arith, subst}
+use Rattle.std.proofs.Common.{length-append, length-drop, append_assoc, ◌⊎◌, inl, inr}
 use Rattle.std.specs.Prelude.{slice_range, slice_index}
 use Rattle.std.specs.Int.{w32, from_le_bytes, to_le_bytes}
 use Rattle.std.proofs.lemmas.List.{take-append-le, drop-append-le, drop-drop, drop-take, take-take}
@@ -38,7 +39,8 @@ drop-put mem bytes a m h =
     let e : length (take (a + m) mem) ≡ a + m = length_taken (a + m) mem h in
     let f : length (take (a + m) mem ++ bytes) ≡ a + m + length bytes = length-append (take (a + m) mem) bytes ∙ ap (λ k. k + length bytes) e in
     drop-append-le a (take (a + m) mem ++ bytes) (drop (a + m + length bytes) mem) (omega (arith, f))
-    ∙ ap (λ xs. xs ++ drop (a + m + length bytes) mem) (drop-append-le a (take (a + m) mem) bytes (omega (arith, e)) ∙ ap (λ xs. xs ++ bytes) (drop-take a m mem))
+    ∙ ap (λ xs. xs ++ drop (a + m + length bytes) mem)
+    (drop-append-le a (take (a + m) mem) bytes (omega (arith, e)) ∙ ap (λ xs. xs ++ bytes) (drop-take a m mem))
     ∙ ap (λ xs. take m (drop a mem) ++ bytes ++ xs) (ap (λ k. drop k mem) (omega arith) ∙ sym (drop-drop (m + length bytes) a mem))
 
 -- the front of a list, after a write within it
@@ -58,7 +60,8 @@ before_put mem bytes b u k h l =
     let s : k ≡ b + (k - b) = omega arith in
     let e : length (drop b mem) ≡ length mem - b = length-drop b mem in
     let t : length (take (k - b) (drop b mem)) ≡ k - b = length_taken (k - b) (drop b mem) (omega (arith, e)) in
-    let f : length (take (k - b) (drop b mem) ++ bytes) ≡ k - b + length bytes = length-append (take (k - b) (drop b mem)) bytes ∙ ap (λ j. j + length bytes) t in
+    let f : length (take (k - b) (drop b mem) ++ bytes) ≡ k - b + length bytes =
+    length-append (take (k - b) (drop b mem)) bytes ∙ ap (λ j. j + length bytes) t in
     ap (λ j. take u (drop b (put mem j bytes))) s
     ∙ ap (take u) (drop-put mem bytes b (k - b) (omega arith))
     ∙ take-append-le u (take (k - b) (drop b mem) ++ bytes) (drop (k - b + length bytes) (drop b mem)) (omega (arith, f))
@@ -78,7 +81,8 @@ behind_put mem bytes b k h l =
 apart : (a b : ℕ) → a ≢ b → (a + 1 ≤ b) ⊎ (b + 1 ≤ a)
 apart a b n = elim (cases_lt a b) [ inl h ↦ inl (omega arith) | inr h ↦ inr (omega arith) ]
 
-other_same : (mem bytes : List ℕ) (unit page at other : ℕ) → other ≢ page → at + length bytes ≤ unit → page * unit + unit ≤ length mem → take unit (drop (other * unit) (put mem (page * unit + at) bytes)) ≡ take unit (drop (other * unit) mem)
+other_same : (mem bytes : List ℕ) (unit page at other : ℕ) → other ≢ page → at + length bytes ≤ unit → page * unit + unit ≤ length mem
+    → take unit (drop (other * unit) (put mem (page * unit + at) bytes)) ≡ take unit (drop (other * unit) mem)
 other_same mem bytes unit page at other n h l =
     elim (apart other page n) [
       | inl lt ↦ before_put mem bytes (other * unit) unit (page * unit + at) (omega (arith, mul-le-mul_right unit lt)) (omega arith)
