@@ -7,7 +7,8 @@ use Rattle.std.proofs.lemmas.Nat.Bits.{bit_at_set_same, bit_at_set_other, bit_at
 use Rattle.elf_image.specs.Marks.{is_marked, Skips, AddsMark}
 
 -- a bit set in the word of its place
-pub marks_one : (words : List ℕ) (place old : ℕ) → place < 64 * length words → old ≡ get_or words (place / 64) old → AddsMark words (set words (place / 64) (bit_or old (1 * 2 ^ (place % 64) % 18446744073709551616))) place
+pub marks_one : (words : List ℕ) (place old : ℕ) → place < 64 * length words → old ≡ get_or words (place / 64) old
+    → AddsMark words (set words (place / 64) (bit_or old (1 * 2 ^ (place % 64) % 18446744073709551616))) place
 marks_one words place old l e =
     let word = place / 64 in
     let in_words : word < length words = omega (arith, l) in
@@ -47,12 +48,14 @@ skips_marked old new next place s m =
     }
 
 -- a full word leads to the next one
-pub skips_full : (words next : List ℕ) (word : ℕ) → word < length words → (full : ℕ) → full ≡ get_or words word full → full ≡ 18446744073709551615 → Skips words next → Skips words (set next word (word + 1))
+pub skips_full : (words next : List ℕ) (word : ℕ) → word < length words → (full : ℕ) → full ≡ get_or words word full → full ≡ 18446744073709551615
+    → Skips words next → Skips words (set next word (word + 1))
 skips_full words next word l full is e s =
     let e' : get_or words word 0 ≡ 18446744073709551615 = sym (is ∙ get_or_default_zero words word full l) ∙ e in
     let size = s.size in
     let here : get_or (set next word (word + 1)) word 0 ≡ word + 1 = get_or-set_same next word (word + 1) 0 (omega (arith, size, l)) in
-    let at_word : (P : ℕ → ℕ → Type 0) → P word (word + 1) → ((k : ℕ) → k ≤ length words → P k (get_or next k 0)) → (k : ℕ) → k ≤ length words → P k (get_or (set next word (word + 1)) k 0) =
+    let at_word : (P : ℕ → ℕ → Type 0) → P word (word + 1) → ((k : ℕ) → k ≤ length words → P k (get_or next k 0)) → (k : ℕ) → k ≤ length words
+    → P k (get_or (set next word (word + 1)) k 0) =
     λ P one others k within. elim (cases_order k word) [
       | inl same ↦ subst (λ n. P n (get_or (set next word (word + 1)) n 0)) (sym same) (subst (P word) (sym here) one)
       | inr apart ↦
@@ -64,6 +67,7 @@ skips_full words next word l full is e s =
       forward = at_word (λ k n. k ≤ n) (omega arith) s.forward;
       within = at_word (λ k n. n ≤ length words) (omega (arith, l)) s.within;
       full = λ k at within. at_word (λ k n. 64 * k ≤ at → at < 64 * n → is_marked words at ≡ true)
-          (λ a b. ap (λ w. bit_at (get_or words w 0) (at % 64) == 1) (omega (arith, a, b)) ∙ ap (λ n. bit_at n (at % 64) == 1) e' ∙ ap (λ n. n == 1) (bit_at_ones 64 (at % 64) (omega arith)))
+          (λ a b. ap (λ w. bit_at (get_or words w 0) (at % 64) == 1) (omega (arith, a, b)) ∙ ap (λ n. bit_at n (at % 64) == 1) e'
+          ∙ ap (λ n. n == 1) (bit_at_ones 64 (at % 64) (omega arith)))
           (λ k within. s.full k at within) k within;
     }

@@ -39,11 +39,20 @@ module _ (mem : List ℕ) (place : ℕ) (bytes : List ℕ) (fits : place + lengt
 pub length_contents : (file : List ℕ) (s : Segment) → is_placed s ≡ true → passes_file (length file) s ≡ false → length (contents file s) ≡ s.memory_size
 length_contents file s is kept =
     let a : s.file_size ≤ s.memory_size = grind (arith, common_steps, is, kept) in
-    let b : length (slice_range file s.offset (s.offset + s.file_size)) ≡ s.file_size = grind (arith, common_steps, is, kept, length-take s.file_size (drop s.offset file), length-drop s.offset file) in
-    omega (arith, length-append (slice_range file s.offset (s.offset + s.file_size)) (replicate (s.memory_size - s.file_size) 0), a, b, length-replicate {A = ℕ} (s.memory_size - s.file_size) 0)
+    let b : length (slice_range file s.offset (s.offset + s.file_size)) ≡ s.file_size =
+    grind (arith, common_steps, is, kept, length-take s.file_size (drop s.offset file), length-drop s.offset file) in
+    omega (
+      arith,
+      length-append (slice_range file s.offset (s.offset + s.file_size)) (replicate (s.memory_size - s.file_size) 0),
+      a,
+      b,
+      length-replicate
+          {A = ℕ} (s.memory_size - s.file_size) 0,
+    )
 
 -- a segment that lies in the file, and in a memory of so many pages
-module _ (file : List ℕ) (pages : ℕ) (s : Segment) (kept : passes_file (length file) s ≡ false) (in_memory : passes_memory pages s ≡ false) (mem : List ℕ) (size : length mem ≡ memory_size pages) where
+module _ (file : List ℕ) (pages : ℕ) (s : Segment) (kept : passes_file (length file) s ≡ false) (in_memory : passes_memory pages s ≡ false) (mem : List ℕ)
+    (size : length mem ≡ memory_size pages) where
   fits : is_placed s ≡ true → start_of s + length (contents file s) ≤ length mem
   fits is =
       let n = length_contents file s is kept in

@@ -44,7 +44,8 @@ module _ (content : ℕ → ℕ) (from mid to : ℕ) where
   }
 
   -- what is written already needn't be
-  pub fills_written : (s t : Layer) → mid ≤ to → Fills content from mid s t → ((at : ℕ) → mid ≤ at → at < to → is_written t at ≡ true) → Fills content from to s t
+  pub fills_written : (s t : Layer) → mid ≤ to → Fills content from mid s t → ((at : ℕ) → mid ≤ at → at < to → is_written t at ≡ true)
+      → Fills content from to s t
   fills_written s t b f all = record {
     bytes = f.bytes;
     words = f.words;
@@ -59,7 +60,8 @@ module _ (content : ℕ → ℕ) (from mid to : ℕ) where
   }
 
 -- one place more
-pub fills_one : (content : ℕ → ℕ) (from at byte : ℕ) (s t u : Layer) → from ≤ at → byte ≡ content at → Fills content from at s t → Fills (λ _. byte) at (at + 1) t u → Fills content from (at + 1) s u
+pub fills_one : (content : ℕ → ℕ) (from at byte : ℕ) (s t u : Layer) → from ≤ at → byte ≡ content at → Fills content from at s t
+    → Fills (λ _. byte) at (at + 1) t u → Fills content from (at + 1) s u
 fills_one content from at byte s t u l e f g =
     fills_then content from at (at + 1) s t u l (omega arith) f
     (record {
@@ -73,7 +75,9 @@ fills_one content from at byte s t u l e f g =
     })
 
 -- the places up to `first` are written already, and the marks are the same list
-pub fills_next : (content : ℕ → ℕ) (from first last : ℕ) (s u : Layer) (marks : List ℕ) → from ≤ first → first ≤ last → marks ≡ s.marks → ((at : ℕ) → from ≤ at → at < first → is_written s at ≡ true)
+pub fills_next : (content : ℕ → ℕ) (from first last : ℕ) (s u : Layer) (marks : List ℕ) → from ≤ first → first ≤ last → marks ≡ s.marks
+    → ((at : ℕ) → from ≤ at → at < first → is_written s at ≡ true)
     → Fills content first last (record { bytes = s.bytes; marks = marks }) u → Fills content from last s u
 fills_next content from first last s u marks a b e all f =
-    fills_then content from first last s s u a b (fills_written content from from first s s a (fills_none content from s) all) (subst (λ m. Fills content first last (record { bytes = s.bytes; marks = m }) u) e f)
+    fills_then content from first last s s u a b (fills_written content from from first s s a (fills_none content from s) all)
+    (subst (λ m. Fills content first last (record { bytes = s.bytes; marks = m }) u) e f)

@@ -19,8 +19,10 @@ pub record IsOverlay (file : List ℕ) (pages : ℕ) (segments : List Segment) (
   pub bytes : length layer.bytes.items ≡ memory_size pages
   pub marks : length layer.bytes.items ≡ 64 * length layer.marks
   pub size : (memory : List ℕ) → length memory ≡ memory_size pages → length (loaded file segments memory) ≡ memory_size pages
-  pub written : (memory : List ℕ) → length memory ≡ memory_size pages → (at : ℕ) → is_written layer at ≡ true → slice_index (loaded file segments memory) at ≡ byte_at layer at
-  pub beneath : (memory : List ℕ) → length memory ≡ memory_size pages → (at : ℕ) → is_written layer at ≡ false → slice_index (loaded file segments memory) at ≡ slice_index memory at
+  pub written : (memory : List ℕ) → length memory ≡ memory_size pages → (at : ℕ) → is_written layer at ≡ true
+      → slice_index (loaded file segments memory) at ≡ byte_at layer at
+  pub beneath : (memory : List ℕ) → length memory ≡ memory_size pages → (at : ℕ) → is_written layer at ≡ false
+      → slice_index (loaded file segments memory) at ≡ slice_index memory at
   pub blank : (at : ℕ) → is_written layer at ≡ false → byte_at layer at ≡ 0
 
 -- the memory with nothing in it
@@ -28,7 +30,8 @@ abbrev zeros : ℕ → List ℕ
 zeros pages = replicate (memory_size pages) 0
 
 zero_at : (n at : ℕ) → slice_index (replicate n 0) at ≡ 0
-zero_at n at = elim (side at n) [ inl l ↦ get_or-replicate n at 0 0 l | inr l ↦ get_or_past (replicate n 0) at 0 (omega (arith, length-replicate {A = ℕ} n 0, l)) ]
+zero_at n at = elim (side at n)
+    [ inl l ↦ get_or-replicate n at 0 0 l | inr l ↦ get_or_past (replicate n 0) at 0 (omega (arith, length-replicate {A = ℕ} n 0, l)) ]
 
 none_marked : (n at : ℕ) → is_marked (replicate n 0) at ≡ false
 none_marked n at = ap (λ k. bit_at k (at % 64) == 1) (zero_at n (at / 64)) ∙ ap (λ k. k == 1) (bit_at-zero (at % 64))
@@ -48,14 +51,17 @@ blank_overlay file pages layer b =
     }
 
 -- one segment more, laid under the others
-module _ (file : List ℕ) (pages : ℕ) (s : Segment) (segments : List Segment) (kept : passes_file (length file) s ≡ false) (in_memory : passes_memory pages s ≡ false) where
-  pub overlay_one : (old new : Layer) → IsOverlay file pages segments old → Fills (given_at file s) (start_of s) (end_of s) old new → IsOverlay file pages (s ∷ segments) new
+module _ (file : List ℕ) (pages : ℕ) (s : Segment) (segments : List Segment) (kept : passes_file (length file) s ≡ false)
+    (in_memory : passes_memory pages s ≡ false) where
+  pub overlay_one : (old new : Layer) → IsOverlay file pages segments old → Fills (given_at file s) (start_of s) (end_of s) old new
+      → IsOverlay file pages (s ∷ segments) new
   overlay_one old new o f =
       let bytes = f.bytes in
       let words = f.words in
       let size = λ (memory : List ℕ) (e : length memory ≡ memory_size pages). length_placed file pages s kept in_memory memory e ∙ e in
       -- what isn't written then wasn't, and lies beside the segment
-      let apart : (at : ℕ) → is_written new at ≡ false → (is_written old at ≡ false) × (byte_at new at ≡ byte_at old at) × ((at < start_of s) ⊎ (end_of s ≤ at)) =
+      let apart : (at : ℕ) → is_written new at ≡ false
+      → (is_written old at ≡ false) × (byte_at new at ≡ byte_at old at) × ((at < start_of s) ⊎ (end_of s ≤ at)) =
       λ at none. elim (side at (start_of s)) [
         | inl below ↦ let same = f.below at below in (sym same.written ∙ none, same.byte, inl below)
         | inr from ↦ elim (side at (end_of s)) [
@@ -77,9 +83,11 @@ module _ (file : List ℕ) (pages : ℕ) (s : Segment) (segments : List Segment)
         blank = λ at none. let a = apart at none in a.1 ∙ o.blank at a.0;
       }
     where
-      by : (old new : Layer) → IsOverlay file pages segments old → Fills (given_at file s) (start_of s) (end_of s) old new → (memory : List ℕ) → length memory ≡ memory_size pages → (at : ℕ) → is_written new at ≡ true
+      by : (old new : Layer) → IsOverlay file pages segments old → Fills (given_at file s) (start_of s) (end_of s) old new → (memory : List ℕ)
+          → length memory ≡ memory_size pages → (at : ℕ) → is_written new at ≡ true
           → (b : Bool) → is_written old at ≡ b → slice_index (loaded file segments (placed file s memory)) at ≡ byte_at new at
-      by old new o f memory e at w true is = o.written (placed file s memory) (length_placed file pages s kept in_memory memory e ∙ e) at is ∙ sym (f.kept at is).byte
+      by old new o f memory e at w true is = o.written (placed file s memory) (length_placed file pages s kept in_memory memory e ∙ e) at is
+          ∙ sym (f.kept at is).byte
       by old new o f memory e at w false is = elim (side at (start_of s)) [
         | inl below ↦ absurd (true≢false (sym w ∙ ((f.below at below).written ∙ is)))
         | inr from ↦ elim (side at (end_of s)) [
@@ -91,11 +99,13 @@ module _ (file : List ℕ) (pages : ℕ) (s : Segment) (segments : List Segment)
       ]
 
 -- over zeros the layer's bytes are all
-pub overlay_bytes : (file : List ℕ) (pages : ℕ) (segments : List Segment) (layer : Layer) → IsOverlay file pages segments layer → layer.bytes.items ≡ loaded file segments (zeros pages)
+pub overlay_bytes : (file : List ℕ) (pages : ℕ) (segments : List Segment) (layer : Layer) → IsOverlay file pages segments layer
+    → layer.bytes.items ≡ loaded file segments (zeros pages)
 overlay_bytes file pages segments layer o =
     let size : length (zeros pages) ≡ memory_size pages = length-replicate {A = ℕ} (memory_size pages) 0 in
     same_number_lists layer.bytes.items (loaded file segments (zeros pages)) (o.bytes ∙ sym (o.size _ size)) (λ at l. by size at (is_written layer at) refl)
   where
-    by : length (zeros pages) ≡ memory_size pages → (at : ℕ) (b : Bool) → is_written layer at ≡ b → slice_index layer.bytes.items at ≡ slice_index (loaded file segments (zeros pages)) at
+    by : length (zeros pages) ≡ memory_size pages → (at : ℕ) (b : Bool) → is_written layer at ≡ b
+        → slice_index layer.bytes.items at ≡ slice_index (loaded file segments (zeros pages)) at
     by size at true is = sym (o.written (zeros pages) size at is)
     by size at false is = o.blank at is ∙ sym (o.beneath (zeros pages) size at is ∙ zero_at (memory_size pages) at)

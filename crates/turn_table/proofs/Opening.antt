@@ -45,10 +45,15 @@ module _ {P : Type 0} where
   agrees_numbered : (front ps : List P) (k : ℕ) → length front ≡ k → Agrees (front ++ ps) (enumerate_from k ps)
   agrees_numbered front [] k e = tt
   agrees_numbered front (p ∷ ps) k e =
-      let moved : Agrees ((front ++ p ∷ []) ++ ps) (enumerate_from (k + 1) ps) = agrees_numbered (front ++ p ∷ []) ps (k + 1) (omega (arith, e, length-append front (p ∷ []))) in
-      (ap (λ j. slice_get (front ++ p ∷ ps) j) (sym e) ∙ at_front front p ps, subst (λ (xs : List P). Agrees xs (enumerate_from (k + 1) ps)) (append_assoc front (p ∷ []) ps) moved)
+      let moved : Agrees ((front ++ p ∷ []) ++ ps) (enumerate_from (k + 1) ps) =
+      agrees_numbered (front ++ p ∷ []) ps (k + 1) (omega (arith, e, length-append front (p ∷ []))) in (
+        ap (λ j. slice_get (front ++ p ∷ ps) j) (sym e)
+            ∙ at_front front p ps,
+        subst (λ (xs : List P). Agrees xs (enumerate_from (k + 1) ps)) (append_assoc front (p ∷ []) ps) moved,
+      )
 
-  pub opened : {B : Type 0} (parts : B → List P) (board : B) (n : ℕ) → n ≡ length (parts board) → Keeps parts n (opening (1 ∷ []) (Some board ∷ []) (idle n (enumerate_from 0 (parts board)) []))
+  pub opened : {B : Type 0} (parts : B → List P) (board : B) (n : ℕ) → n ≡ length (parts board)
+      → Keeps parts n (opening (1 ∷ []) (Some board ∷ []) (idle n (enumerate_from 0 (parts board)) []))
   opened {B} parts board n count =
       let first : View B P = idle n (enumerate_from 0 (parts board)) [] in
       record {
@@ -85,7 +90,8 @@ module _ {P : Type 0} where
   agrees_first ps [] a = tt
   agrees_first ps (r ∷ rs) a = (a.0, tt)
 
-  pub splits : {B : Type 0} (parts : B → List P) (n id : ℕ) (v : View B P) → v.holds ≡ false → Splits (Keeps parts n) id v (idle v.harts (rest v.records) v.found) (idle v.harts (take 1 v.records) [])
+  pub splits : {B : Type 0} (parts : B → List P) (n id : ℕ) (v : View B P) → v.holds ≡ false
+      → Splits (Keeps parts n) id v (idle v.harts (rest v.records) v.found) (idle v.harts (take 1 v.records) [])
   unfolding out_set
   splits {B} parts n id v none s k at =
       let left : View B P = idle v.harts (rest v.records) v.found in
@@ -104,18 +110,21 @@ module _ {P : Type 0} where
             let had = h.2.agrees id v at in (
               h.0,
               h.1,
-              home_snoc n (parts h.0) (set s.views id left) right (home_set n (parts h.0) s.views id left h.2 refl (agrees_rest (parts h.0) v.records had)) refl (agrees_first (parts h.0) v.records had),
+              home_snoc n (parts h.0) (set s.views id left) right (home_set n (parts h.0) s.views id left h.2 refl (agrees_rest (parts h.0) v.records had))
+                  refl (agrees_first (parts h.0) v.records had),
             );
         out = λ e. let o = k.out e in
             let had = o.1.agrees id v at in (
               o.0,
-              out_snoc n o.0 (set s.views id left) right (out_set n o.0 s.views id v left o.1 at none refl (agrees_rest o.1.view.noted v.records had)) refl (agrees_first o.1.view.noted v.records had),
+              out_snoc n o.0 (set s.views id left) right (out_set n o.0 s.views id v left o.1 at none refl (agrees_rest o.1.view.noted v.records had)) refl
+                  (agrees_first o.1.view.noted v.records had),
             );
       }
 
   -- ---- one pass keeps what two had on record
 
-  pub joins : {B : Type 0} (parts : B → List P) (n id : ℕ) (v : View B P) (other : ℕ) (w : View B P) → v.holds ≡ false → w.holds ≡ false → Joins (Keeps parts n) id v other w (joined v w) (idle 0 [] [])
+  pub joins : {B : Type 0} (parts : B → List P) (n id : ℕ) (v : View B P) (other : ℕ) (w : View B P) → v.holds ≡ false → w.holds ≡ false
+      → Joins (Keeps parts n) id v other w (joined v w) (idle 0 [] [])
   joins {B} parts n id v other w none none' s k at ne at' =
       let both : View B P = joined v w in
       let spent : View B P = idle 0 [] [] in
@@ -134,12 +143,15 @@ module _ {P : Type 0} where
             let ps = parts h.0 in (
               h.0,
               h.1,
-              home_set n ps (set s.views id both) other spent (home_set n ps s.views id both h.2 refl (Agrees-append ps w.records v.records (h.2.agrees other w before) (h.2.agrees id v at))) refl tt,
+              home_set n ps (set s.views id both) other spent
+                  (home_set n ps s.views id both h.2 refl (Agrees-append ps w.records v.records (h.2.agrees other w before) (h.2.agrees id v at))) refl tt,
             );
         out = λ e. let o = k.out e in
             let ps = o.1.view.noted in (
               o.0,
-              out_set n o.0 (set s.views id both) other w spent (out_set n o.0 s.views id v both o.1 at none refl (Agrees-append ps w.records v.records (o.1.agrees other w before) (o.1.agrees id v at))) at' none' refl tt,
+              out_set n o.0 (set s.views id both) other w spent
+                  (out_set n o.0 s.views id v both o.1 at none refl
+                  (Agrees-append ps w.records v.records (o.1.agrees other w before) (o.1.agrees id v at))) at' none' refl tt,
             );
       }
 
@@ -177,7 +189,8 @@ module _ {P : Type 0} where
   length_numbered k (p ∷ ps) = ap suc (length_numbered (k + 1) ps)
 
   -- what the passes have that were dealt, with the last of them
-  pub all_dealt : {B : Type 0} (n : ℕ) (rs : List (ℕ × P)) (ps items : List (Pass B P)) (p : Pass B P) → 0 < n → n ≡ length rs → map (λ q. q.seat.me) ps ≡ dealt n (take (n - 1) rs) → p.seat.me ≡ (idle n (drop (n - 1) rs) [], []) → items ≡ ps ++ p ∷ []
+  pub all_dealt : {B : Type 0} (n : ℕ) (rs : List (ℕ × P)) (ps items : List (Pass B P)) (p : Pass B P) → 0 < n → n ≡ length rs
+      → map (λ q. q.seat.me) ps ≡ dealt n (take (n - 1) rs) → p.seat.me ≡ (idle n (drop (n - 1) rs) [], []) → items ≡ ps ++ p ∷ []
       → map (λ q. q.seat.me) items ≡ dealt n rs
   all_dealt {B} n rs ps items p pos count before own are =
       let l = last rs n pos count in
@@ -211,7 +224,8 @@ module _ {P : Type 0} where
     dealt_all n (p ∷ ps) [] e = cc
     dealt_all n (p ∷ ps) (r ∷ rs) e = All-cons (IsDealt n) p ps (is_dealt n p r (head_of _ _ _ _ e)) (dealt_all n ps rs (tail_of _ _ _ _ e))
 
-    pub dealt_each : (n k : ℕ) (ps : List (Pass B P)) (qs : List P) → map (λ q. q.seat.me) ps ≡ dealt n (enumerate_from k qs) → (h : ℕ) (p : Pass B P) → slice_get ps h ≡ Some p → (hart_of p ≡ k + h) × (part_of p ≡ slice_get qs h)
+    pub dealt_each : (n k : ℕ) (ps : List (Pass B P)) (qs : List P) → map (λ q. q.seat.me) ps ≡ dealt n (enumerate_from k qs) → (h : ℕ) (p : Pass B P)
+        → slice_get ps h ≡ Some p → (hart_of p ≡ k + h) × (part_of p ≡ slice_get qs h)
     dealt_each n k [] qs e h p at = cc
     dealt_each n k (x ∷ ps) [] e h p at = cc
     dealt_each n k (x ∷ ps) (q ∷ qs) e zero p at =
@@ -224,7 +238,8 @@ module _ {P : Type 0} where
         let more : k + 1 + h ≡ k + suc h = omega arith in
         (r.0 ∙ more, r.1)
 
-    dealt_hart : (n k : ℕ) (ps : List (Pass B P)) (qs : List P) → map (λ q. q.seat.me) ps ≡ dealt n (enumerate_from k qs) → (h d : ℕ) → h < length qs → (h < length (map hart_of ps)) × (slice_index_or (map hart_of ps) h d ≡ k + h)
+    dealt_hart : (n k : ℕ) (ps : List (Pass B P)) (qs : List P) → map (λ q. q.seat.me) ps ≡ dealt n (enumerate_from k qs) → (h d : ℕ) → h < length qs
+        → (h < length (map hart_of ps)) × (slice_index_or (map hart_of ps) h d ≡ k + h)
     dealt_hart n k [] [] e h d lt = absurd (omega (arith, lt))
     dealt_hart n k [] (q ∷ qs) e h d lt = cc
     dealt_hart n k (x ∷ ps) [] e h d lt = cc
@@ -237,5 +252,6 @@ module _ {P : Type 0} where
         (omega (arith, r.0), r.1 ∙ more)
 
     -- every hart has a pass
-    pub dealt_every : (n : ℕ) (ps : List (Pass B P)) (qs : List P) → map (λ q. q.seat.me) ps ≡ dealt n (enumerate_from 0 qs) → (h : ℕ) → h < length qs → Contains (map hart_of ps) h
+    pub dealt_every : (n : ℕ) (ps : List (Pass B P)) (qs : List P) → map (λ q. q.seat.me) ps ≡ dealt n (enumerate_from 0 qs) → (h : ℕ) → h < length qs
+        → Contains (map hart_of ps) h
     dealt_every n ps qs e h lt = let r = dealt_hart n 0 ps qs e h h lt in (h, r.0, r.1 ∙ omega arith)

@@ -22,8 +22,13 @@ loop-preserved g c =
     record {
       table = c.split_seat-first.ensures.0 ∙ c.loop.invariant.table;
       seat = c.split_seat-first.ensures.2 ∙ (λ i. (idle (s i).0.harts (rest (records i)) (s i).0.found, (s i).1));
-      tables = rw c.in-Ok.ensures.items (All-push (λ p. p.seat.table_id ≡ c.args.table.now.shared.table_id) c.loop.passes.items (record { seat = c.split_seat-first.result }) c.loop.invariant.tables (c.split_seat-first.ensures.3 ∙ c.loop.invariant.table ∙ c.requires.table));
-      records = rw c.in-Ok.ensures.items (map_push _ c.loop.passes.items (record { seat = c.split_seat-first.result }) ∙ (λ i. c.loop.invariant.records i ++ (c.split_seat-first.ensures.4 ∙ (λ j. (idle (s j).0.harts (take 1 (records j)) [], []))) i ∷ []) ∙ sym (map_push _ (take k rs) n.0) ∙ ap (dealt c.args.seat.now.me.0.harts) (sym n.2));
+      tables = rw c.in-Ok.ensures.items
+          (All-push (λ p. p.seat.table_id ≡ c.args.table.now.shared.table_id) c.loop.passes.items (record { seat = c.split_seat-first.result })
+          c.loop.invariant.tables (c.split_seat-first.ensures.3 ∙ c.loop.invariant.table ∙ c.requires.table));
+      records = rw c.in-Ok.ensures.items
+          (map_push _ c.loop.passes.items (record { seat = c.split_seat-first.result })
+          ∙ (λ i. c.loop.invariant.records i ++ (c.split_seat-first.ensures.4 ∙ (λ j. (idle (s j).0.harts (take 1 (records j)) [], []))) i ∷ [])
+          ∙ sym (map_push _ (take k rs) n.0) ∙ ap (dealt c.args.seat.now.me.0.harts) (sym n.2));
       count = omega (arith, c.in-Ok.ensures.len, c.loop.invariant.count);
       room = omega (arith, c.in-Ok.ensures.capacity, c.loop.invariant.room);
     }

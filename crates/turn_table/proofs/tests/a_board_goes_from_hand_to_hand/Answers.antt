@@ -36,6 +36,8 @@ close-board-requires-clause-every g c =
     let two = c.in-Some-Some.ensures'.items in
     let len : length vec.items ≡ 2 = omega (arith, vec.ok.0, c.in-Ok.ensures.count, c.harts.ensures) in
     let nothing = none vec.items c.pop.new.self.items c.pop-2.new.self.items c.in-Some-Some.first c.in-Some-Some.second one two len in
-    let whole : c.push-2.new.self.items ≡ first ∷ (second ∷ []) = c.in-Ok-Ok.ensures'.items ∙ ap (λ l. l ++ second ∷ []) (c.in-Ok-Ok.ensures.items ∙ ap (λ l. l ++ first ∷ []) nothing) in
+    let whole : c.push-2.new.self.items ≡ first ∷ (second ∷ []) = c.in-Ok-Ok.ensures'.items
+    ∙ ap (λ l. l ++ second ∷ []) (c.in-Ok-Ok.ensures.items ∙ ap (λ l. l ++ first ∷ []) nothing) in
     let harts = c.side_by_side-first.ensures.harts in
-    λ h lt. subst (λ l. Contains (map hart_of l) h) (sym whole) (every_of_two (hart_of first) (hart_of second) harts.0 harts.1 h (omega (arith, lt, c.in-Ok.ensures.harts, c.harts.ensures)))
+    λ h lt. subst (λ l. Contains (map hart_of l) h) (sym whole)
+    (every_of_two (hart_of first) (hart_of second) harts.0 harts.1 h (omega (arith, lt, c.in-Ok.ensures.harts, c.harts.ensures)))

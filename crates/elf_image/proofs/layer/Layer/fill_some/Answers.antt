@@ -19,4 +19,5 @@ returns-clause-fills c =
       | then-word-from w ↦ c.skip-word.ensures.full at (omega (arith, a)) (omega (arith, b))
       | else-word-from w ↦ absurd (omega (arith, a, b))
     ] in
-    rw c.settle.ensures (fills_next (given_at c.args.file.now c.args.segment) from first c.if-word-to.last c.args.self.now c.fill.new.self _ up on c.skip-word.ensures.same all c.fill.ensures)
+    rw c.settle.ensures (fills_next (given_at c.args.file.now c.args.segment) from first c.if-word-to.last c.args.self.now c.fill.new.self _ up on
+    c.skip-word.ensures.same all c.fill.ensures)

@@ -12,7 +12,8 @@ new-requires g c =
     let n = c.args.n in
     let items = c.in_default-push.ensures.items ∙ ap (λ xs. xs ++ Some c.args.board ∷ []) c.new-slots.ensures.items in
     subst (λ xs. Keeps parts n (opening (1 ∷ []) xs (idle n (enumerate_from 0 (parts c.of.result.value)) []))) (sym items)
-    (subst (λ b. Keeps parts n (opening (1 ∷ []) (Some c.args.board ∷ []) (idle n (enumerate_from 0 (parts b)) []))) (sym c.of.ensures) (opened parts c.args.board n c.requires.count))
+    (subst (λ b. Keeps parts n (opening (1 ∷ []) (Some c.args.board ∷ []) (idle n (enumerate_from 0 (parts b)) []))) (sym c.of.ensures)
+    (opened parts c.args.board n c.requires.count))
 
 pub deal-requires-clause-harts : goal.deal-requires-clause-harts
 deal-requires-clause-harts g c =
@@ -28,14 +29,18 @@ returns-in-Ok-new-clause-table g c =
     let n = c.args.n in
     let rs = enumerate_from 0 (parts c.args.board) in
     let start : c.in-Ok-new.seat.me ≡ (idle n rs [], []) = c.in-Ok-new.ensures.ok.4 ∙ ap (λ b. (idle n (enumerate_from 0 (parts b)) [], [])) c.of.ensures in
-    let own : c.deal.new.seat.me ≡ (idle n (drop (n - 1) rs) [], []) = c.deal.ensures.view ∙ ap (λ m. (idle m.0.harts (drop (n - 1) m.0.records) [], [])) start in
+    let own : c.deal.new.seat.me ≡ (idle n (drop (n - 1) rs) [], []) = c.deal.ensures.view
+    ∙ ap (λ m. (idle m.0.harts (drop (n - 1) m.0.records) [], [])) start in
     let before = c.deal.ensures.records ∙ ap (λ m. dealt m.0.harts (take (n - 1) m.0.records)) start in
     let count : n ≡ length rs = c.requires.count ∙ sym (length_numbered 0 (parts c.args.board)) in
-    let all = all_dealt n rs c.deal.new.passes.items c.push-in-Ok-new.new.self.items (record { seat = c.deal.new.seat }) c.requires.some count before own c.in-Ok-push.ensures.items in
+    let all = all_dealt n rs c.deal.new.passes.items c.push-in-Ok-new.new.self.items (record { seat = c.deal.new.seat }) c.requires.some count before own
+    c.in-Ok-push.ensures.items in
     let id = c.in-Ok-new.table.shared.table_id in
     let key : c.in-Ok-new.table.shared.key.harts ≡ n = ap (λ k. k.harts) c.in-Ok-new.ensures.ok.5 in
     let tables : All (λ p. p.seat.table_id ≡ id) c.push-in-Ok-new.new.self.items =
-    rw c.in-Ok-push.ensures.items (All-push (λ p. p.seat.table_id ≡ id) c.deal.new.passes.items (record { seat = c.deal.new.seat }) c.deal.ensures.table (c.deal.ensures.seat ∙ c.in-Ok-new.ensures.ok.2)) in
+    rw c.in-Ok-push.ensures.items
+    (All-push (λ p. p.seat.table_id ≡ id) c.deal.new.passes.items (record { seat = c.deal.new.seat }) c.deal.ensures.table
+    (c.deal.ensures.seat ∙ c.in-Ok-new.ensures.ok.2)) in
     let each = dealt_all n c.push-in-Ok-new.new.self.items rs all in
     λ k d lt. (record { table = tables k d lt; harts = (each k d lt).harts ∙ sym key }, (each k d lt).idle)
 
@@ -45,10 +50,12 @@ returns-in-Ok-new-clause-fresh g c =
     let n = c.args.n in
     let rs = enumerate_from 0 (parts c.args.board) in
     let start : c.in-Ok-new.seat.me ≡ (idle n rs [], []) = c.in-Ok-new.ensures.ok.4 ∙ ap (λ b. (idle n (enumerate_from 0 (parts b)) [], [])) c.of.ensures in
-    let own : c.deal.new.seat.me ≡ (idle n (drop (n - 1) rs) [], []) = c.deal.ensures.view ∙ ap (λ m. (idle m.0.harts (drop (n - 1) m.0.records) [], [])) start in
+    let own : c.deal.new.seat.me ≡ (idle n (drop (n - 1) rs) [], []) = c.deal.ensures.view
+    ∙ ap (λ m. (idle m.0.harts (drop (n - 1) m.0.records) [], [])) start in
     let before = c.deal.ensures.records ∙ ap (λ m. dealt m.0.harts (take (n - 1) m.0.records)) start in
     let count : n ≡ length rs = c.requires.count ∙ sym (length_numbered 0 (parts c.args.board)) in
-    let all = all_dealt n rs c.deal.new.passes.items c.push-in-Ok-new.new.self.items (record { seat = c.deal.new.seat }) c.requires.some count before own c.in-Ok-push.ensures.items in
+    let all = all_dealt n rs c.deal.new.passes.items c.push-in-Ok-new.new.self.items (record { seat = c.deal.new.seat }) c.requires.some count before own
+    c.in-Ok-push.ensures.items in
     λ k d lt. (dealt_all n c.push-in-Ok-new.new.self.items rs all k d lt).fresh
 
 pub returns-in-Ok-new-clause-each : goal.returns-in-Ok-new-clause-each
@@ -57,10 +64,12 @@ returns-in-Ok-new-clause-each g c =
     let n = c.args.n in
     let rs = enumerate_from 0 (parts c.args.board) in
     let start : c.in-Ok-new.seat.me ≡ (idle n rs [], []) = c.in-Ok-new.ensures.ok.4 ∙ ap (λ b. (idle n (enumerate_from 0 (parts b)) [], [])) c.of.ensures in
-    let own : c.deal.new.seat.me ≡ (idle n (drop (n - 1) rs) [], []) = c.deal.ensures.view ∙ ap (λ m. (idle m.0.harts (drop (n - 1) m.0.records) [], [])) start in
+    let own : c.deal.new.seat.me ≡ (idle n (drop (n - 1) rs) [], []) = c.deal.ensures.view
+    ∙ ap (λ m. (idle m.0.harts (drop (n - 1) m.0.records) [], [])) start in
     let before = c.deal.ensures.records ∙ ap (λ m. dealt m.0.harts (take (n - 1) m.0.records)) start in
     let count : n ≡ length rs = c.requires.count ∙ sym (length_numbered 0 (parts c.args.board)) in
-    let all = all_dealt n rs c.deal.new.passes.items c.push-in-Ok-new.new.self.items (record { seat = c.deal.new.seat }) c.requires.some count before own c.in-Ok-push.ensures.items in
+    let all = all_dealt n rs c.deal.new.passes.items c.push-in-Ok-new.new.self.items (record { seat = c.deal.new.seat }) c.requires.some count before own
+    c.in-Ok-push.ensures.items in
     λ h p at. let r = dealt_each n 0 c.push-in-Ok-new.new.self.items (parts c.args.board) all h p at in (r.0 ∙ omega arith, r.1)
 
 pub returns-in-Ok-new-clause-every : goal.returns-in-Ok-new-clause-every
@@ -69,8 +78,10 @@ returns-in-Ok-new-clause-every g c =
     let n = c.args.n in
     let rs = enumerate_from 0 (parts c.args.board) in
     let start : c.in-Ok-new.seat.me ≡ (idle n rs [], []) = c.in-Ok-new.ensures.ok.4 ∙ ap (λ b. (idle n (enumerate_from 0 (parts b)) [], [])) c.of.ensures in
-    let own : c.deal.new.seat.me ≡ (idle n (drop (n - 1) rs) [], []) = c.deal.ensures.view ∙ ap (λ m. (idle m.0.harts (drop (n - 1) m.0.records) [], [])) start in
+    let own : c.deal.new.seat.me ≡ (idle n (drop (n - 1) rs) [], []) = c.deal.ensures.view
+    ∙ ap (λ m. (idle m.0.harts (drop (n - 1) m.0.records) [], [])) start in
     let before = c.deal.ensures.records ∙ ap (λ m. dealt m.0.harts (take (n - 1) m.0.records)) start in
     let count : n ≡ length rs = c.requires.count ∙ sym (length_numbered 0 (parts c.args.board)) in
-    let all = all_dealt n rs c.deal.new.passes.items c.push-in-Ok-new.new.self.items (record { seat = c.deal.new.seat }) c.requires.some count before own c.in-Ok-push.ensures.items in
+    let all = all_dealt n rs c.deal.new.passes.items c.push-in-Ok-new.new.self.items (record { seat = c.deal.new.seat }) c.requires.some count before own
+    c.in-Ok-push.ensures.items in
     λ h lt. dealt_every n c.push-in-Ok-new.new.self.items (parts c.args.board) all h (omega (arith, lt, c.requires.count))
