@@ -27,7 +27,8 @@ stays d e input same none = record { later = omega (arith, same); time = λ t is
 timed_on : (d e : Devices) (t half w : ℕ) → timed d t half ≡ Some (e, w) → GoesOn d e (Time t)
 timed_on d e t half w is = elim (leb_tells d.mtime t) [
   | inl (b, l) ↦
-      let p : (with_time t d, half) ≡ (e, w) = same_Some {A = Devices × ℕ} _ _ (sym (ap (λ x. if x then Some (with_time t d, half) else None) b) ∙ is) in
+      let p : ◌≡◌ {A = Devices × ℕ} (with_time t d, half) (e, w) =
+      same_Some _ _ (sym (ap (λ x. if x then Some (with_time t d, half) else None) b) ∙ is) in
       let m : t ≡ e.mtime = ap (λ (z : Devices × ℕ). z.0.mtime) p in
       record { later = omega (arith, l, m); time = λ u same. let v = same_Some _ _ (ap time_in same) in (omega (arith, l, v), omega (arith, m, v)) }
   | inr (b, l) ↦ absurd (none-some _ (sym (ap (λ x. if x then Some (with_time t d, half) else None) b) ∙ is))

@@ -37,9 +37,9 @@ use Rattle.crew_recording.proofs.Steady.{no_place}
 use Rattle.crew_recording.proofs.Whole.{first_ordered, orderly}
 use Rattle.replay_law.specs.Laws.{IsReplayable, first_replay}
 use Rattle.replay_law.proofs.Local.{actor, HasPages}
-use Rattle.replay_law.proofs.Went.{act_of, flat_after, hold_in, step_went}
+use Rattle.replay_law.proofs.Steps.{act_of, flat_after, hold_in, step_went}
 use Rattle.replay_law.proofs.Tables.{held_stays}
-use Rattle.replay_law.proofs.Judged.{act_is}
+use Rattle.replay_law.proofs.Verdicts.{act_is}
 use Rattle.replay_law.proofs.Views.{Shape, Sound, shape_of, view, view_agrees}
 use Rattle.replay_law.proofs.Boards.{made_of, view_stays}
 use Rattle.replay_law.proofs.Orders.{Good, good_first, lasts}

@@ -34,7 +34,7 @@ use Rattle.replay_model.proofs.Driving.{went}
 use Rattle.crew_recording.proofs.Tests.{met}
 use Rattle.crew_recording.specs.Recording.{IsSteady}
 use Rattle.crew_recording.specs.Laws.{IsBoard}
-use Rattle.replay_law.proofs.Meets.{entry_left}
+use Rattle.replay_law.proofs.Pairs.{entry_left}
 use Rattle.replay_ends.specs.Laws.{NobodyHoldsAlone}
 use Rattle.crew_recording.proofs.Items.{same_places, entry_places}
 use Rattle.crew_recording.proofs.Steady.{board_steady}
