@@ -1,5 +1,5 @@
 -- The flat machine: harts with their counts of moves, one memory, and the devices. It has no pages, owners or threads.
-use Rattle.std.specs.Prelude.{ℕ, ◌≡◌, ◌*◌, All, length, List, map, replicate}
+use Rattle.std.specs.Prelude.{ℕ, ◌≡◌, ◌+◌, ◌*◌, All, length, List, map, replicate}
 use Rattle.std.specs.List.{range_with_len}
 use Rattle.rv_words.specs.Limits.{page_bytes}
 use Rattle.rv_hart.specs.State.{Hart}
@@ -27,6 +27,10 @@ flat_at_start image harts =
 pub record Machine : Type 0 where
   pub state : FlatState
   pub spare : ℕ
+
+-- console bytes that were sent, and further ones for which there is room
+abbrev pub console_room : Machine → ℕ
+console_room m = length m.state.devices.sent + m.spare
 
 -- a hart of a board with so many harts and pages
 abbrev pub OnBoard : ℕ → ℕ → Hart → Type 0

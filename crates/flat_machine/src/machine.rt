@@ -3,7 +3,7 @@
 ghost use Rattle.std.specs.Prelude.{◌≡◌, ◌+◌, ◌%◌, ◌<◌, ◌≤◌, ◌^◌, is_some, unwrap_or, slice_index, length, map, replicate, IfOk};
 ghost use Rattle.std.specs.List.{range_with_len};
 ghost use Rattle.rv_hart.specs.Moves.{hart_at_start};
-ghost use Rattle.flat_machine.specs.State.{flat_at_start};
+ghost use Rattle.flat_machine.specs.State.{flat_at_start, console_room};
 ghost use Rattle.flat_machine.specs.Acts.{next, CountsFit, SendsWithRoom};
 ghost use Rattle.flat_machine.specs.Runs.{final_of};
 
@@ -134,7 +134,7 @@ impl Flat {
         requires count { slice_index self.old.state.counts h + 1 < 2 ^ 64 }
         ensures answer { result ≡ is_some (next (Act.Touch h input) self.old.state) }
         ensures state { self.new.state ≡ unwrap_or (next (Act.Touch h input) self.old.state) self.old.state }
-        ensures room { length self.new.state.devices.sent + self.new.spare ≡ length self.old.state.devices.sent + self.old.spare }
+        ensures room { console_room self.new ≡ console_room self.old }
     {
         let i = h as usize;
         if i >= self.harts.len() || self.devices.stop().is_some() {
@@ -163,7 +163,7 @@ impl Flat {
         requires counts { CountsFit act self.old.state }
         ensures answer { result ≡ is_some (next act self.old.state) }
         ensures state { self.new.state ≡ unwrap_or (next act self.old.state) self.old.state }
-        ensures room { length self.new.state.devices.sent + self.new.spare ≡ length self.old.state.devices.sent + self.old.spare }
+        ensures room { console_room self.new ≡ console_room self.old }
     {
         match act {
             Act::Run(h) => self.run(h),
