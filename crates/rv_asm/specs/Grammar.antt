@@ -1,7 +1,7 @@
 -- The grammar of the assembler. A text is lines, each ended by a newline, that are the text of an instruction whose
 -- fields are in range, or `.word 0x` and 8 lower-case digits. The empty text has no lines and no words; a last line
 -- without its newline is not in the grammar.
-use Rattle.std.specs.Prelude.{ℕ, ◌≡◌, ◌<◌, ◌^◌, ◌==◌, ◌⊎◌, false, List, [], ◌∷◌, ◌++◌, length, codes, Some}
+use Rattle.std.specs.Prelude.{ℕ, ◌≡◌, ◌<◌, ◌^◌, ◌==◌, ◌⊎◌, false, List, [], ◌∷◌, ◌++◌, length, codes, Some, Result, MatchResult}
 use Rattle.rv_decode.specs.declared.Instr.{Instr}
 use Rattle.rv_decode.specs.Fits.{Fits}
 use Rattle.rv_decode.specs.Table.{meaning}
@@ -38,6 +38,18 @@ FailsAt n bytes = (ws : List ℕ) × (rest : List ℕ) × (length ws ≡ n) × (
 abbrev pub FailsWith : AsmError → List ℕ → Type 0
 FailsWith (BadLine n) bytes = FailsAt n bytes
 FailsWith NoMemory bytes = Unit {0}
+
+-- lines of the grammar are accepted, unless memory runs out, and for no other words; `items` are the words of a result
+abbrev pub AcceptsLines : {V : Type 0} → Result V AsmError → (V → List ℕ) → List ℕ → Type 0
+AcceptsLines result items bytes = (ws : List ℕ) → Spells ws [] bytes → MatchResult result (λ v. items v ≡ ws) (λ e. e ≡ NoMemory)
+
+-- the first line that isn't in the grammar is told, unless memory runs out
+abbrev pub TellsBadLine : {V : Type 0} → Result V AsmError → List ℕ → Type 0
+TellsBadLine result bytes = (n : ℕ) → FailsAt n bytes → MatchResult result (λ v. ⊥) (λ e. (e ≡ BadLine n) ⊎ (e ≡ NoMemory))
+
+-- the text of an instruction with a newline spells its word
+abbrev pub TextSpells : Type 0
+TextSpells = (i : Instr) (w : ℕ) → Fits i → w < 2 ^ 32 → meaning w ≡ Some i → Spells (w ∷ []) [] (text i ++ (10 ∷ []))
 
 -- Private functions alone promise what follows.
 

@@ -2,7 +2,7 @@
 
 ghost use Rattle.std.specs.Prelude.{◌≡◌, ℕ, List, [], IfOk, IfErr, IsTrue, ◌↔◌, ◌⊎◌, ◌==◌, MatchOption, MatchResult, string_bytes, position};
 ghost use Rattle.rv_asm.specs.Scan.{line_text, LineFits, MeansWord};
-ghost use Rattle.rv_asm.specs.Grammar.{Stands, Spells, FailsAt, FailsWith, IsLine, IsCut};
+ghost use Rattle.rv_asm.specs.Grammar.{Stands, Spells, FailsWith, AcceptsLines, TellsBadLine, IsLine, IsCut};
 
 use crate::AsmError;
 use crate::scan::{Line, line_of, scan_line};
@@ -112,9 +112,9 @@ pub fn assemble(alloc: Global, text: &str) -> Result<Vec<u32>, AsmError>
     // A bad line is the first that isn't in the grammar.
     ensures fault { IfErr result (λ e. FailsWith e text.now) }
     // Lines of the grammar are accepted, unless memory runs out, and for no other words.
-    ensures only { (ws : List ℕ) → Spells ws [] text.now → MatchResult result (λ v. v.items ≡ ws) (λ e. e ≡ AsmError.NoMemory) }
+    ensures only { AcceptsLines result (λ v. v.items) text.now }
     // A first line that isn't in the grammar is told, unless memory runs out.
-    ensures first { (n : ℕ) → FailsAt n text.now → MatchResult result (λ v. ⊥) (λ e. (e ≡ AsmError.BadLine n) ⊎ (e ≡ AsmError.NoMemory)) }
+    ensures first { TellsBadLine result text.now }
 {
     assembled(alloc, text.as_bytes())
 }

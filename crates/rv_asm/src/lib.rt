@@ -5,12 +5,8 @@
 //! each operand written out; specs/Text.antt has the form of each.
 #![tactic(auto)]
 
-ghost use Rattle.std.specs.Prelude.{◌≡◌, ℕ, ◌<◌, ◌^◌, [], ◌∷◌, ◌++◌, Some};
-ghost use Rattle.rv_decode.specs.declared.Instr.{Instr};
-ghost use Rattle.rv_decode.specs.Fits.{Fits};
-ghost use Rattle.rv_decode.specs.Table.{meaning};
-ghost use Rattle.rv_asm.specs.Text.{text};
-ghost use Rattle.rv_asm.specs.Grammar.{Spells};
+ghost use Rattle.std.specs.Prelude.{◌≡◌};
+ghost use Rattle.rv_asm.specs.Grammar.{TextSpells};
 ghost use Rattle.rv_asm.specs.declared.AsmError.TheVariants.{NoMemory};
 
 use std::alloc::{AllocError, AllocFailed};
@@ -53,7 +49,7 @@ impl<T: Drop> From<AllocFailed<T>> for AsmError {
 /// The text of an instruction with a newline spells its word, so `assemble` gives that word.
 #[tactic(auto, using(crate::proofs::Lines::one_line))]
 pub fn text_assembles()
-    ensures { (i : Instr) (w : ℕ) → Fits i → w < 2 ^ 32 → meaning w ≡ Some i → Spells (w ∷ []) [] (text i ++ (10 ∷ [])) }
+    ensures { TextSpells }
 {}
 
 #[cfg(test)]
