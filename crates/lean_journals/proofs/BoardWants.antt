@@ -75,7 +75,8 @@ module _ (shape : Shape) where
   acts_leave : (s : Replay FlatState) (g h : ℕ) (item : Item) (p : Option Act) (t : FlatState) (n : ℕ × Mode) → Sound shape s
       → verdict_on (board shape.unit) s g item ≡ CanGo → act_of (board shape.unit) s g item ≡ p → h ≢ g → flat_after (board shape.unit) s.flat p ≡ Some t
       → want (board shape.unit) s h ≡ Some n → want (board shape.unit) (record s { flat = t }) h ≡ Some n
-  acts_leave s g h item None t n sound go is other after wants = subst (λ f. want (board shape.unit) (record s { flat = f }) h ≡ Some n) (same_Some _ _ after) wants
+  acts_leave s g h item None t n sound go is other after wants =
+      subst (λ f. want (board shape.unit) (record s { flat = f }) h ≡ Some n) (same_Some _ _ after) wants
   acts_leave s g h item (Some act) t n sound go is other after wants =
       let a = act_is (board shape.unit) s g item act go is in
       act_leaves s act t h n sound a.has after (λ e. other (e ∙ a.by)) wants
