@@ -369,6 +369,7 @@ impl Hart {
         }
     }
 
+    #[inline(always)]
     fn store_effect(&self, op: StoreOp, at: u32, value: u32) -> Effect
         ensures effect { result ≡ store_effect self.now op at value }
         ensures sound { IsSound self.now result }
