@@ -1,5 +1,5 @@
 mod Digits
-mod Refused
-mod Stopping
+mod OptionValues
+mod Readers
 mod FirstBad
 mod Names

@@ -4,6 +4,8 @@ use Rattle.std.specs.Prelude.{ℕ, ◌≡◌, ◌+◌, Bool, true, false, List, 
 use Rattle.command_words.specs.Texts.{is_name, number_in}
 use Rattle.command_words.specs.Options.{options, AnOption, Next}
 use Rattle.command_words.specs.declared.job.Usage.{Usage}
+use Rattle.command_words.specs.declared.job.Job.{Job}
+use Rattle.command_words.specs.Grammar.{name}
 
 abbrev pub ok_or : ℕ → Option ℕ → Result ℕ ℕ
 ok_or place (Some n) = Ok n
@@ -41,3 +43,9 @@ ReadsOption option names given place word words result =
     (λ r. options option names (AnOption given) place (word ∷ words)
     ≡ options option names (AnOption r.0) (place_behind r.1 place) (words_behind r.1 words))
     (λ u. options option names (AnOption given) place (word ∷ words) ≡ Err u.place)
+
+-- whatever is read behind the names of the image and the log, these words stop at a place of these names
+abbrev pub NamesStop : List (List ℕ) → ℕ → Type 0
+NamesStop words place =
+    (rest : List ℕ → List ℕ → List (List ℕ) → Result Job ℕ)
+    → name [] 1 words (λ image words. name (image ∷ []) 2 words (λ log words. rest image log words)) ≡ Err place

@@ -15,6 +15,7 @@ mod record;
 mod replay;
 #[cfg(test)]
 mod tests;
+mod two_names;
 mod value;
 mod word;
 

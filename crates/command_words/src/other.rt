@@ -4,7 +4,8 @@ ghost use Rattle.command_words.specs.Behind.{Reads};
 ghost use Rattle.command_words.specs.Grammar.{inspect_of, trace_of, moves_of, sample_of};
 ghost use Rattle.command_words.specs.Allowed.{ArePlaces, IsInRange};
 
-use crate::word::{is_name, is_second_name, number_in};
+use crate::two_names::image_and_log;
+use crate::word::{is_name, number_in};
 use crate::{Job, Usage};
 
 /// The most moves that a hart makes.
@@ -87,17 +88,6 @@ pub(crate) fn trace_words(words: &[String]) -> Result<Job, Usage>
     ensures places { IfOk result (ArePlaces (1 + length words.now)) }
     ensures ranges { IfOk result IsInRange }
 {
-    let [image, rest @ ..] = words else {
-        return Err(Usage { place: 1 });
-    };
-    if !is_name(image) {
-        return Err(Usage { place: 1 });
-    }
-    let [log, rest @ ..] = rest else {
-        return Err(Usage { place: 2 });
-    };
-    if !is_second_name(log, image) {
-        return Err(Usage { place: 2 });
-    }
+    let (_, _, rest) = image_and_log(words)?;
     moves_words(rest)
 }

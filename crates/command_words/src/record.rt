@@ -6,8 +6,8 @@ ghost use Rattle.command_words.specs.Tables.{record_option, no_record_option};
 ghost use Rattle.command_words.specs.Grammar.{record_of};
 ghost use Rattle.command_words.specs.Allowed.{IsBelow, AreInRange, ArePlaces, IsInRange};
 
+use crate::two_names::image_and_log;
 use crate::value::{name_behind, number_behind};
-use crate::word::{is_name, is_second_name};
 use crate::{Job, Usage};
 
 /// The options that were given.
@@ -97,18 +97,7 @@ pub(crate) fn record_words(words: &[String]) -> Result<Job, Usage>
     ensures places { IfOk result (ArePlaces (1 + length words.now)) }
     ensures ranges { IfOk result IsInRange }
 {
-    let [image, rest @ ..] = words else {
-        return Err(Usage { place: 1 });
-    };
-    if !is_name(image) {
-        return Err(Usage { place: 1 });
-    }
-    let [log, rest @ ..] = rest else {
-        return Err(Usage { place: 2 });
-    };
-    if !is_second_name(log, image) {
-        return Err(Usage { place: 2 });
-    }
+    let (image, log, rest) = image_and_log(words)?;
     let given = record_options(rest, image, log)?;
     Ok(Job::Record {
         image: 1,

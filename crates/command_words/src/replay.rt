@@ -6,8 +6,8 @@ ghost use Rattle.command_words.specs.Tables.{replay_option, no_replay_option};
 ghost use Rattle.command_words.specs.Grammar.{replay_of};
 ghost use Rattle.command_words.specs.Allowed.{IsBelow, ArePlaces, IsInRange};
 
+use crate::two_names::image_and_log;
 use crate::value::name_behind;
-use crate::word::{is_name, is_second_name};
 use crate::{Job, Usage, Way};
 
 /// The options that were given.
@@ -89,18 +89,7 @@ pub(crate) fn replay_words(words: &[String]) -> Result<Job, Usage>
     ensures places { IfOk result (ArePlaces (1 + length words.now)) }
     ensures ranges { IfOk result IsInRange }
 {
-    let [image, rest @ ..] = words else {
-        return Err(Usage { place: 1 });
-    };
-    if !is_name(image) {
-        return Err(Usage { place: 1 });
-    }
-    let [log, rest @ ..] = rest else {
-        return Err(Usage { place: 2 });
-    };
-    if !is_second_name(log, image) {
-        return Err(Usage { place: 2 });
-    }
+    let (image, log, rest) = image_and_log(words)?;
     let given = replay_options(rest, image, log)?;
     Ok(Job::Replay {
         image: 1,

@@ -1,4 +1,4 @@
-pub mod Printing
-pub mod Keeping
+pub mod Texts
+pub mod Recordings
 pub mod Wishes
-pub mod Completing
+pub mod Completeness

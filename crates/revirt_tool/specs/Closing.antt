@@ -47,11 +47,11 @@ pub record FailsToPrint (text : List ℕ) (s t : SeenSink) : Type 0 where
   pub faults : Rose s.faults t.faults
 
 -- the text was printed and the status is the one, or it wasn't and the status is the other
-abbrev pub Tells : List ℕ → ℕ → ℕ → SeenSink → SeenSink → ℕ → Type 0
-Tells text printed unprinted s t status = (Prints text s t × (status ≡ printed)) ⊎ (FailsToPrint text s t × (status ≡ unprinted))
+abbrev pub PrintsOrFails : List ℕ → ℕ → ℕ → SeenSink → SeenSink → ℕ → Type 0
+PrintsOrFails text printed unprinted s t status = (Prints text s t × (status ≡ printed)) ⊎ (FailsToPrint text s t × (status ≡ unprinted))
 
 -- an ending's text was printed, or there was no memory for its line
 abbrev pub Closes : Ending → SeenSink → SeenSink → ℕ → Type 0
 Closes ending s t status =
-    Tells (text_of ending) (status_of ending) (status_unprinted ending) s t status
-    ⊎ ((has_number ending ≡ true) × Tells no_memory_line 3 3 s t status)
+    PrintsOrFails (text_of ending) (status_of ending) (status_unprinted ending) s t status
+    ⊎ ((has_number ending ≡ true) × PrintsOrFails no_memory_line 3 3 s t status)

@@ -1,5 +1,5 @@
 -- What recording a run of one hart keeps and reports: the promise of the program (docs/recorder.md, docs/replay.md).
-use Rattle.std.specs.Prelude.{ℕ, zero, suc, ◌≡◌, ◌≢◌, ◌≤◌, ◌++◌, ◌∷◌, [], Bool, true, false, List, length, replicate, slice_get, Option, Some, None, option_map, unwrap_or, IfSome, IsTrue, Ok, Err}
+use Rattle.std.specs.Prelude.{ℕ, zero, suc, ◌≡◌, ◌≢◌, ◌≤◌, ◌++◌, ◌∷◌, [], Bool, true, false, List, length, replicate, Option, Some, None, option_map, IfSome, IsTrue, Ok, Err}
 use Rattle.outside.specs.Seen.{SeenShelf, Holds}
 use Rattle.rv_words.specs.declared.shared.Cause.{Cause}
 use Rattle.rv_words.specs.declared.shared.Cause.TheVariants as causes

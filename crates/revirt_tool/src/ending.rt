@@ -1,7 +1,7 @@
 //! How a command ends: its status, and the text that it prints.
 
 ghost use Rattle.std.specs.Prelude.{◌≡◌, List, ℕ};
-ghost use Rattle.revirt_tool.specs.Closing.{Tells, Closes};
+ghost use Rattle.revirt_tool.specs.Closing.{PrintsOrFails, Closes};
 
 use outside::Sink;
 use std::alloc::Global;
@@ -23,7 +23,7 @@ pub enum Ending {
 
 /// Prints a text, and gives the status where it is printed, or the other one.
 fn print<R: Sink>(text: &[u8], printed: u8, failed: u8, report: &mut R) -> u8
-    ensures { Tells text.now printed failed (R.seen report.old) (R.seen report.new) result }
+    ensures { PrintsOrFails text.now printed failed (R.seen report.old) (R.seen report.new) result }
 {
     match report.put(text) {
         Ok(()) => printed,

@@ -2,6 +2,7 @@
 
 ghost use Rattle.std.specs.Prelude.{◌≡◌, ◌≢◌, ◌≤◌, ◌++◌, IsTrue, IsSome, Some, List, ℕ, false, length, is_ok, IfSome, OnOk, OnErr};
 ghost use Rattle.rv_words.specs.declared.shared.Cause.TheVariants as causes;
+ghost use Rattle.rv_words.specs.Limits.{most_pages};
 ghost use Rattle.log_entry.specs.Range.{in_range};
 ghost use Rattle.outside.specs.Causes.{HasCause};
 ghost use Rattle.outside.specs.Seen.{ToldBefore, Holds, OthersHold};
@@ -119,7 +120,7 @@ fn file_for<S: Shelf>(alloc: Global, request: &Request, shelf: &mut S) -> Result
 fn image_for<S: Shelf>(alloc: Global, request: &Request, shelf: &mut S) -> Result<Image, Ending>
     requires has { S.has shelf.old request.now.image.now }
     requires least { 1 ≤ request.now.pages }
-    requires most { request.now.pages ≤ 4096 }
+    requires most { request.now.pages ≤ most_pages }
     ensures writing { (S.seen shelf.new).writing ≡ (S.seen shelf.old).writing }
     ensures tells { ToldBefore (S.seen shelf.old).tells (S.seen shelf.new).tells }
     ensures image { ImageAs (wish_by request.now) (S.seen shelf.old) (S.seen shelf.new) result }
@@ -146,7 +147,7 @@ pub(crate) fn record<S: Shelf, C: Console, K: Clock>(
     requires writing { (S.seen shelf.old).writing ≡ false }
     requires has { S.has shelf.old request.now.image.now }
     requires least { 1 ≤ request.now.pages }
-    requires most { request.now.pages ≤ 4096 }
+    requires most { request.now.pages ≤ most_pages }
     requires limit { request.now.limit ≤ 1000000000000 }
     requires shortest { 1024 ≤ request.now.log_limit }
     requires longest { request.now.log_limit ≤ 536870912 }

@@ -158,9 +158,8 @@ fn devices() -> [Row; 4] {
     [pages, timer, software, input]
 }
 
-/// Runs in which something fails. Of the calls of the shelf, 0 fetches, 1 to 3 keep the log, and 4 to 7 the dump, whose
-/// bytes sent are none in the smallest run and still appended.
-fn faults() -> [Row; 10] {
+/// Runs in which the console or the sink fails.
+fn failing_ends() -> [Row; 4] {
     let words = "record g l --pages 1 --limit 100 --dump d";
     let mut console = plain_row(words, sends(), 5, "cause fault");
     console.console_fails = &[2];
@@ -180,30 +179,38 @@ fn faults() -> [Row; 10] {
     report.sink_fails = &[0];
     report.length = 123;
     report.entries = "p0:0.5.0 g0:0.0r t2:1.n e3";
-    let mut fetch = plain_row(words, smallest(), 4, "shelf fault");
-    fetch.shelf_fails = &[0];
-    let mut begin = plain_row(words, smallest(), 4, "shelf fault");
-    begin.shelf_fails = &[1];
-    let mut append = plain_row(words, smallest(), 4, "shelf fault");
-    append.shelf_fails = &[2];
-    let mut finish = plain_row(words, smallest(), 4, "shelf fault");
-    finish.shelf_fails = &[3];
-    let mut nothing_sent = plain_row(words, smallest(), 4, "shelf fault");
-    nothing_sent.shelf_fails = &[6];
-    nothing_sent.length = 123;
-    nothing_sent.entries = "p0:0.5.0 g0:0.0r t2:1.n e3";
-    let missing = plain_row("record h l", smallest(), 4, "shelf fault");
+    [console, unkept, unprinted, report]
+}
+
+/// The smallest run with a dump, where this call of the shelf fails.
+fn failing_call(fails: &'static [u64]) -> Row {
+    let words = "record g l --pages 1 --limit 100 --dump d";
+    let mut row = plain_row(words, smallest(), 4, "shelf fault");
+    row.shelf_fails = fails;
+    row
+}
+
+/// The same once the log is kept.
+fn failing_dump(fails: &'static [u64]) -> Row {
+    let mut row = failing_call(fails);
+    row.length = 123;
+    row.entries = "p0:0.5.0 g0:0.0r t2:1.n e3";
+    row
+}
+
+/// Runs in which the shelf fails. Of its calls, 0 fetches, 1 to 3 keep the log, and 4 to 7 the dump: no bytes were sent,
+/// and they are appended all the same, as call 6, so that 7 is what finishes the dump.
+fn failing_shelves() -> [Row; 9] {
     [
-        console,
-        unkept,
-        unprinted,
-        report,
-        fetch,
-        begin,
-        append,
-        finish,
-        nothing_sent,
-        missing,
+        failing_call(&[0]),
+        failing_call(&[1]),
+        failing_call(&[2]),
+        failing_call(&[3]),
+        failing_dump(&[4]),
+        failing_dump(&[5]),
+        failing_dump(&[6]),
+        failing_dump(&[7]),
+        plain_row("record h l", smallest(), 4, "shelf fault"),
     ]
 }
 
@@ -390,7 +397,15 @@ fn pages_and_devices_are_recorded(rt: HostRuntime) -> Result<(), Fail> {
 
 #[test]
 fn each_failing_call_is_told(rt: HostRuntime) -> Result<(), Fail> {
-    for row in faults() {
+    for row in failing_ends() {
+        assert!(rt; comes_true(&rt, rt.alloc(), &row)?);
+    }
+    Ok(())
+}
+
+#[test]
+fn each_failing_call_of_the_shelf_is_told(rt: HostRuntime) -> Result<(), Fail> {
+    for row in failing_shelves() {
         assert!(rt; comes_true(&rt, rt.alloc(), &row)?);
     }
     Ok(())

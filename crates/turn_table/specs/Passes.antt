@@ -2,7 +2,7 @@
 use Rattle.std.specs.Prelude.{◌≡◌, ◌≢◌, ℕ, List, [], ◌∷◌, true, false, Option, Some, None, length, slice_get}
 use Rattle.turn_table.specs.declared.table.Pass.{Pass}
 use Rattle.turn_table.specs.declared.table.TurnTable.{TurnTable}
-use Rattle.turn_table.specs.Turns.{first_hart, first_part, Agrees}
+use Rattle.turn_table.specs.Turns.{first_hart, first_part, AreOnRecord}
 
 module _ {B P : Type 0} where
   -- the number of harts for which it was opened
@@ -49,7 +49,7 @@ module _ {B P : Type 0} where
     pub alone : length p.seat.me.0.records ≡ 1
     pub holds : p.seat.me.0.holds ≡ true
     pub slots : p.seat.me.1 ≡ (0, None) ∷ []
-    pub agrees : Agrees p.seat.me.0.noted p.seat.me.0.records
+    pub agrees : AreOnRecord p.seat.me.0.noted p.seat.me.0.records
 
   -- the pass has not looked for the board yet
   pub record IsFresh (p : Pass B P) : Type 0 where

@@ -2,7 +2,7 @@
 
 ghost use Rattle.std.specs.Prelude.{◌≡◌, ◌≢◌, ◌<◌, ◌≤◌, ℕ, List, [], ◌∷◌, true, false, length, Some, None, IfSome, IfNone, IfOk, IfErr, All, map, take, drop, vec_len, vec_capacity, slice_get};
 ghost use Rattle.std.specs.List.{enumerate_from};
-ghost use Rattle.turn_table.specs.Turns.{Keeps, takes_board, gives_board, rest, idle, joined, dealt};
+ghost use Rattle.turn_table.specs.Turns.{IsRuled, takes_board, gives_board, rest, idle, joined, dealt};
 
 use crate::view::View;
 use atomic_table::{Join, Play, Refused, Seat, Split, Table, TableRule};
@@ -34,7 +34,7 @@ struct Turns<B> {
 }
 
 impl<B: Parted> TableRule<Option<B>, View<B, B::Part>, Opening<B>> for Turns<B> {
-    ghost holds = { λ k s. Keeps B.parts k.harts s };
+    ghost holds = { λ k s. IsRuled B.parts k.harts s };
 
     ghost first = { λ k. idle k.harts (enumerate_from 0 (B.parts k.board.value)) [] };
 }

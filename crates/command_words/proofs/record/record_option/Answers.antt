@@ -2,7 +2,7 @@ use Rattle.std.proofs.Common.{rules, ◌≡◌, [], ◌∷◌, string_bytes, Som
 use Rattle.command_words.specs.Texts.{texts}
 use Rattle.command_words.specs.Options.{ANumber, AName, once}
 use Rattle.command_words.specs.Tables.{record_option}
-use Rattle.command_words.proofs.Refused.{number_refused, name_refused}
+use Rattle.command_words.proofs.OptionValues.{number_refused, name_refused}
 use Rattle.command_words.proofs.record.record_option.Goals as goal
 
 pub returns-in_err-number_behind-in-text-3-clause-reads : goal.returns-in_err-number_behind-in-text-3-clause-reads

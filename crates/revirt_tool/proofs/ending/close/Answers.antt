@@ -1,5 +1,5 @@
 use Rattle.std.proofs.Common.{inl, ◌∙◌}
-use Rattle.revirt_tool.proofs.Printing.{as_usage, as_image, as_ending}
+use Rattle.revirt_tool.proofs.Texts.{as_usage, as_image, as_ending}
 use Rattle.revirt_tool.specs.declared.ending.Ending.TheVariants.{TooLong, ShelfFault}
 use Rattle.revirt_tool.proofs.ending.close.Goals as goal
 

@@ -1,5 +1,5 @@
 use Rattle.revirt_tool.specs.Promise.{wish_by}
-use Rattle.revirt_tool.proofs.Keeping.{records, one_count}
+use Rattle.revirt_tool.proofs.Recordings.{records, one_count}
 use Rattle.revirt_tool.proofs.recording.record.Goals as goal
 
 pub keep_run-requires-clause-counts : goal.keep_run-requires-clause-counts

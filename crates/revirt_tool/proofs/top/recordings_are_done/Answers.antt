@@ -1,4 +1,4 @@
-use Rattle.revirt_tool.proofs.Completing.{complete}
+use Rattle.revirt_tool.proofs.Completeness.{complete}
 use Rattle.revirt_tool.proofs.top.recordings_are_done.Goals as goal
 
 pub returns : goal.returns

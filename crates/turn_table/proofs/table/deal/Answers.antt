@@ -2,7 +2,7 @@ use Rattle.std.proofs.Common.{◌≡◌, ◌+◌, drop, take, ◌∷◌, ◌++�
 use Rattle.std.proofs.lemmas.List.{map_push}
 use Rattle.std.proofs.lemmas.List.Elements.{All-push}
 use Rattle.turn_table.specs.Turns.{idle, rest, dealt}
-use Rattle.turn_table.proofs.Opening.{splits, next}
+use Rattle.turn_table.proofs.Passes.{splits, next}
 use Rattle.turn_table.proofs.table.deal.Goals as goal
 
 pub split_seat-first-requires : goal.split_seat-first-requires

@@ -2,8 +2,8 @@ use Rattle.std.proofs.Common.{◌≡◌, ◌-◌, ◌∷◌, ◌++◌, [], take,
 use Rattle.std.specs.List.{enumerate_from}
 use Rattle.std.proofs.lemmas.List.Elements.{All-push}
 use Rattle.atomic_table.specs.Table.{opening}
-use Rattle.turn_table.specs.Turns.{Keeps, idle, dealt}
-use Rattle.turn_table.proofs.Opening.{opened, length_numbered, all_dealt, dealt_all, dealt_each, dealt_every}
+use Rattle.turn_table.specs.Turns.{IsRuled, idle, dealt}
+use Rattle.turn_table.proofs.Passes.{opened, length_numbered, all_dealt, dealt_all, dealt_each, dealt_every}
 use Rattle.turn_table.proofs.table.TurnTable.open.Goals as goal
 
 pub new-requires : goal.new-requires
@@ -11,8 +11,8 @@ new-requires g c =
     let parts = g.B.Parted.parts in
     let n = c.args.n in
     let items = c.in_default-push.ensures.items ∙ ap (λ xs. xs ++ Some c.args.board ∷ []) c.new-slots.ensures.items in
-    subst (λ xs. Keeps parts n (opening (1 ∷ []) xs (idle n (enumerate_from 0 (parts c.of.result.value)) []))) (sym items)
-    (subst (λ b. Keeps parts n (opening (1 ∷ []) (Some c.args.board ∷ []) (idle n (enumerate_from 0 (parts b)) []))) (sym c.of.ensures)
+    subst (λ xs. IsRuled parts n (opening (1 ∷ []) xs (idle n (enumerate_from 0 (parts c.of.result.value)) []))) (sym items)
+    (subst (λ b. IsRuled parts n (opening (1 ∷ []) (Some c.args.board ∷ []) (idle n (enumerate_from 0 (parts b)) []))) (sym c.of.ensures)
     (opened parts c.args.board n c.requires.count))
 
 pub deal-requires-clause-harts : goal.deal-requires-clause-harts

@@ -11,9 +11,9 @@ use Rattle.atomic_table.specs.Table.{Me, Splits, Joins, opening}
 use Rattle.atomic_table.proofs.Lists.{set_else}
 use Rattle.turn_table.specs.declared.view.View.{View}
 use Rattle.turn_table.specs.declared.table.Pass.{Pass}
-use Rattle.turn_table.specs.Turns.{times, times_in, Agrees, idle, Keeps, joined, rest, dealt, first_hart, first_part}
+use Rattle.turn_table.specs.Turns.{times, times_in, AreOnRecord, idle, IsRuled, joined, rest, dealt, first_hart, first_part}
 use Rattle.turn_table.specs.Passes.{IsFresh, IsIdle, hart_of, part_of}
-use Rattle.turn_table.proofs.Records.{times-append, times_in-set, times_in-snoc, Agrees-append}
+use Rattle.turn_table.proofs.Records.{times-append, times_in-set, times_in-snoc, AreOnRecord-append}
 use Rattle.turn_table.proofs.Steps.{home_set, home_snoc, out_set, out_snoc}
 
 module _ {P : Type 0} where
@@ -42,18 +42,18 @@ module _ {P : Type 0} where
   at_front [] p ps = refl
   at_front (x ∷ xs) p ps = at_front xs p ps
 
-  agrees_numbered : (front ps : List P) (k : ℕ) → length front ≡ k → Agrees (front ++ ps) (enumerate_from k ps)
+  agrees_numbered : (front ps : List P) (k : ℕ) → length front ≡ k → AreOnRecord (front ++ ps) (enumerate_from k ps)
   agrees_numbered front [] k e = tt
   agrees_numbered front (p ∷ ps) k e =
-      let moved : Agrees ((front ++ p ∷ []) ++ ps) (enumerate_from (k + 1) ps) =
+      let moved : AreOnRecord ((front ++ p ∷ []) ++ ps) (enumerate_from (k + 1) ps) =
       agrees_numbered (front ++ p ∷ []) ps (k + 1) (omega (arith, e, length-append front (p ∷ []))) in (
         ap (λ j. slice_get (front ++ p ∷ ps) j) (sym e)
             ∙ at_front front p ps,
-        subst (λ (xs : List P). Agrees xs (enumerate_from (k + 1) ps)) (append_assoc front (p ∷ []) ps) moved,
+        subst (λ (xs : List P). AreOnRecord xs (enumerate_from (k + 1) ps)) (append_assoc front (p ∷ []) ps) moved,
       )
 
   pub opened : {B : Type 0} (parts : B → List P) (board : B) (n : ℕ) → n ≡ length (parts board)
-      → Keeps parts n (opening (1 ∷ []) (Some board ∷ []) (idle n (enumerate_from 0 (parts board)) []))
+      → IsRuled parts n (opening (1 ∷ []) (Some board ∷ []) (idle n (enumerate_from 0 (parts board)) []))
   opened {B} parts board n count =
       let first : View B P = idle n (enumerate_from 0 (parts board)) [] in
       record {
@@ -67,7 +67,7 @@ module _ {P : Type 0} where
           record {
             count = sym count;
             idle = λ i v e. ap (λ (z : View B P). z.holds) (sym (is i v e));
-            agrees = λ i v e. subst (λ (z : View B P). Agrees (parts board) z.records) (is i v e) (agrees_numbered [] (parts board) 0 refl);
+            agrees = λ i v e. subst (λ (z : View B P). AreOnRecord (parts board) z.records) (is i v e) (agrees_numbered [] (parts board) 0 refl);
           },
         );
         out = λ e. absurd (omega (arith, e));
@@ -82,16 +82,16 @@ module _ {P : Type 0} where
   times_apart h [] = refl
   times_apart h (r ∷ rs) = omega arith
 
-  agrees_rest : (ps : List P) (rs : List (ℕ × P)) → Agrees ps rs → Agrees ps (rest rs)
+  agrees_rest : (ps : List P) (rs : List (ℕ × P)) → AreOnRecord ps rs → AreOnRecord ps (rest rs)
   agrees_rest ps [] a = tt
   agrees_rest ps (r ∷ rs) a = a.1
 
-  agrees_first : (ps : List P) (rs : List (ℕ × P)) → Agrees ps rs → Agrees ps (take 1 rs)
+  agrees_first : (ps : List P) (rs : List (ℕ × P)) → AreOnRecord ps rs → AreOnRecord ps (take 1 rs)
   agrees_first ps [] a = tt
   agrees_first ps (r ∷ rs) a = (a.0, tt)
 
   pub splits : {B : Type 0} (parts : B → List P) (n id : ℕ) (v : View B P) → v.holds ≡ false
-      → Splits (Keeps parts n) id v (idle v.harts (rest v.records) v.found) (idle v.harts (take 1 v.records) [])
+      → Splits (IsRuled parts n) id v (idle v.harts (rest v.records) v.found) (idle v.harts (take 1 v.records) [])
   unfolding out_set
   splits {B} parts n id v none s k at =
       let left : View B P = idle v.harts (rest v.records) v.found in
@@ -124,7 +124,7 @@ module _ {P : Type 0} where
   -- ---- one pass keeps what two had on record
 
   pub joins : {B : Type 0} (parts : B → List P) (n id : ℕ) (v : View B P) (other : ℕ) (w : View B P) → v.holds ≡ false → w.holds ≡ false
-      → Joins (Keeps parts n) id v other w (joined v w) (idle 0 [] [])
+      → Joins (IsRuled parts n) id v other w (joined v w) (idle 0 [] [])
   joins {B} parts n id v other w none none' s k at ne at' =
       let both : View B P = joined v w in
       let spent : View B P = idle 0 [] [] in
@@ -144,14 +144,14 @@ module _ {P : Type 0} where
               h.0,
               h.1,
               home_set n ps (set s.views id both) other spent
-                  (home_set n ps s.views id both h.2 refl (Agrees-append ps w.records v.records (h.2.agrees other w before) (h.2.agrees id v at))) refl tt,
+                  (home_set n ps s.views id both h.2 refl (AreOnRecord-append ps w.records v.records (h.2.agrees other w before) (h.2.agrees id v at))) refl tt,
             );
         out = λ e. let o = k.out e in
             let ps = o.1.view.noted in (
               o.0,
               out_set n o.0 (set s.views id both) other w spent
                   (out_set n o.0 s.views id v both o.1 at none refl
-                  (Agrees-append ps w.records v.records (o.1.agrees other w before) (o.1.agrees id v at))) at' none' refl tt,
+                  (AreOnRecord-append ps w.records v.records (o.1.agrees other w before) (o.1.agrees id v at))) at' none' refl tt,
             );
       }
 

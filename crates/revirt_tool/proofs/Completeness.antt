@@ -10,7 +10,7 @@ use Rattle.recorder.specs.Sources.{Sources}
 use Rattle.recorder.specs.Turns.{FaultsOf}
 use Rattle.outside.specs.Seen.{SeenShelf, SeenSink}
 use Rattle.revirt_tool.specs.Serving.{Around}
-use Rattle.revirt_tool.specs.Closing.{Tells, status_of, status_unprinted}
+use Rattle.revirt_tool.specs.Closing.{PrintsOrFails, status_of, status_unprinted}
 use Rattle.revirt_tool.specs.Promise.{Wish, wish, wish_of, longest_image, KeepsRecording, is_fault}
 use Rattle.revirt_tool.specs.Complete.{IsComplete}
 use Rattle.revirt_tool.specs.declared.ending.Ending.TheVariants.{Usage, NotBuilt, TooLong, ImageRefused, NoMemory, ShelfFault, Kept}
@@ -29,7 +29,7 @@ same_wish : (words : List (List ℕ)) (w v : Wish) → wish words ≡ Some w →
 same_wish words w v one other = same_Some w v (sym one ∙ other)
 
 -- a text that was printed, where the sink didn't fail
-printed : (text : List ℕ) (ok unprinted status : ℕ) (s t : SeenSink) → (Rose s.faults t.faults → ⊥) → Tells text ok unprinted s t status → status ≡ ok
+printed : (text : List ℕ) (ok unprinted status : ℕ) (s t : SeenSink) → (Rose s.faults t.faults → ⊥) → PrintsOrFails text ok unprinted s t status → status ≡ ok
 printed text ok unprinted status s t quiet (inl done) = done.1
 printed text ok unprinted status s t quiet (inr failed) = absurd (quiet failed.0.faults)
 
@@ -61,9 +61,9 @@ complete words before after status (ShelfFault, ends, closes) image quiet =
 complete words before after status (Kept report fault, ends, inr other) image quiet = absurd (true≢false (sym other.0))
 complete words before after status (Kept report fault, ends, inl prints) image quiet =
     let none = done report.items fault ends.0 before.shelf after.shelf before.sources after.sources ends.2 quiet.console in
-    inl (subst (λ f. Tells report.items (if f then 5 else 0) (if f then 5 else 11) before.sink after.sink status → status ≡ 0) (sym none)
+    inl (subst (λ f. PrintsOrFails report.items (if f then 5 else 0) (if f then 5 else 11) before.sink after.sink status → status ≡ 0) (sym none)
     (λ x. printed _ 0 11 status before.sink after.sink quiet.sink x) (as_tests fault prints)) where
-      as_tests : (f : Bool) → Tells report.items (status_of (Kept report f)) (status_unprinted (Kept report f)) before.sink after.sink status
-          → Tells report.items (if f then 5 else 0) (if f then 5 else 11) before.sink after.sink status
+      as_tests : (f : Bool) → PrintsOrFails report.items (status_of (Kept report f)) (status_unprinted (Kept report f)) before.sink after.sink status
+          → PrintsOrFails report.items (if f then 5 else 0) (if f then 5 else 11) before.sink after.sink status
       as_tests true x = x
       as_tests false x = x

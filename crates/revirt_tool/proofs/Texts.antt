@@ -1,0 +1,18 @@
+-- A printed text is that of its ending.
+use Rattle.std.proofs.Common.{◌≡◌, ℕ, List, inl, sym, subst}
+use Rattle.revirt_tool.specs.Lines.{usage_line, image_line}
+use Rattle.outside.specs.Seen.{SeenSink}
+use Rattle.revirt_tool.specs.Closing.{Closes, PrintsOrFails}
+use Rattle.revirt_tool.specs.declared.ending.Ending.{Ending}
+use Rattle.revirt_tool.specs.declared.ending.Ending.TheVariants.{Usage, ImageRefused}
+
+pub as_ending : (e f : Ending) (s t : SeenSink) (status : ℕ) → e ≡ f → Closes f s t status → Closes e s t status
+as_ending e f s t status is closes = subst (λ x. Closes x s t status) (sym is) closes
+
+pub as_usage : (e : Ending) (s t : SeenSink) (place status : ℕ) (text : List ℕ) → e ≡ Usage place → text ≡ usage_line place → PrintsOrFails text 1 1 s t status
+    → Closes e s t status
+as_usage e s t place status text is line prints = as_ending e (Usage place) s t status is (inl (subst (λ x. PrintsOrFails x 1 1 s t status) line prints))
+
+pub as_image : (e : Ending) (s t : SeenSink) (rule status : ℕ) (text : List ℕ) → e ≡ ImageRefused rule → text ≡ image_line rule → PrintsOrFails text 2 2 s t status
+    → Closes e s t status
+as_image e s t rule status text is line prints = as_ending e (ImageRefused rule) s t status is (inl (subst (λ x. PrintsOrFails x 2 2 s t status) line prints))
