@@ -33,8 +33,20 @@ IsInRange (Record image log harts pages limit log_limit dump rounds) =
 IsInRange (Trace image log hart from to) = (hart < 8) × (from ≤ to) × (to ≤ from + 1000000) × (to ≤ 1000000000000)
 IsInRange _ = Unit {0}
 
--- the dump of a recording of these words has another name than its log; of the other jobs nothing is said
+-- where the first place is given, the word there differs from the one at the second
+abbrev pub IsOther : List (List ℕ) → Option ℕ → ℕ → Type 0
+IsOther words None other = Unit {0}
+IsOther words (Some place) other = word_at words place ≢ word_at words other
+
+-- the dump of a job of these words has another name than its log
 abbrev pub KeepsApart : List (List ℕ) → Job → Type 0
-KeepsApart words (Record image log harts pages limit log_limit None rounds) = Unit {0}
-KeepsApart words (Record image log harts pages limit log_limit (Some dump) rounds) = word_at words dump ≢ word_at words log
+KeepsApart words (Record image log harts pages limit log_limit dump rounds) = IsOther words dump log
+KeepsApart words (Replay image log dump way) = IsOther words dump log
 KeepsApart words _ = Unit {0}
+
+-- neither the log nor the dump of a job of these words has the name of its image
+abbrev pub SparesImage : List (List ℕ) → Job → Type 0
+SparesImage words (Record image log harts pages limit log_limit dump rounds) = IsOther words (Some log) image × IsOther words dump image
+SparesImage words (Replay image log dump way) = IsOther words (Some log) image × IsOther words dump image
+SparesImage words (Trace image log hart from to) = IsOther words (Some log) image
+SparesImage words _ = Unit {0}
