@@ -1,5 +1,5 @@
 -- A move that was made uncounted is the next move of the run that counts.
-use Rattle.std.proofs.Common.{◌≡◌, ℕ, zero, suc, ◌+◌, ◌≤◌, Bool, true, false, cond, Option, Some, None, refl, sym, ap, ap₂, ◌∙◌, subst, arith}
+use Rattle.std.proofs.Common.{◌≡◌, ℕ, zero, suc, ◌+◌, ◌≤◌, true, false, cond, Some, None, refl, sym, ap, ap₂, ◌∙◌, subst, arith}
 use Rattle.std.specs.Prelude.{is_some}
 use Rattle.rv_words.specs.declared.shared.Mode.TheVariants.{Read}
 use Rattle.rv_decode.specs.declared.Instr.{Instr}
@@ -7,25 +7,20 @@ use Rattle.rv_decode.specs.Table.{meaning}
 use Rattle.rv_csr.specs.State.{Csrs}
 use Rattle.rv_csr.specs.Traps.{pending, counted_times}
 use Rattle.rv_hart.specs.State.{Hart}
-use Rattle.rv_hart.specs.Effects.{instr_effect, decoded_effect, effect_of, fetch_of}
+use Rattle.rv_hart.specs.Effects.{instr_effect, decoded_effect, effect_of}
 use Rattle.rv_hart.specs.Moves.{after, written, need_of, with_csrs}
 use Rattle.rv_hart.specs.Needs.{page_at}
-use Rattle.rv_hart.specs.Bursts.{reads_csr, is_quiet, fetch_place, with_counted}
+use Rattle.rv_hart.specs.Bursts.{reads_csr, is_quiet, fetch_place}
 use Rattle.rv_hart.proofs.Bursts.{effect_apart, after_apart, fetches_at}
 use Rattle.rv_hart.specs.declared.effect.Effect.{Effect}
-use Rattle.rv_hart.specs.declared.effect.Fetch.{Fetch}
-use Rattle.rv_hart.specs.declared.effect.Fetch.TheVariants as fetch
 use Rattle.flat_machine.specs.State.{FlatState}
 use Rattle.flat_machine.specs.Moves.{move_of}
-use Rattle.replay_model.specs.Board.{board}
-use Rattle.replay_model.specs.State.{Replay, IsCrewState}
+use Rattle.replay_model.specs.State.{Replay}
 use Rattle.run_model.specs.Run.{Run, lacks, word_held, word_of, fetched_from, move_held, ahead_of, data_ahead, loaded_held, stored_in, moved_by, IsOneRun}
-use Rattle.run_model.specs.Legs.{KeepsPages}
+use Rattle.run_model.specs.Legs.{KeepsPages, HasLed}
 use Rattle.hart_run.specs.Bursts.{Goes, HasGone, lagged, Passed}
 use Rattle.run_model.specs.declared.asked.Ahead.TheVariants.{Free}
-use Rattle.run_model.proofs.Aheads.{ahead_of_word}
-use Rattle.run_model.proofs.Legs.{HasLed, led_further, keeps_further}
-use Rattle.run_model.proofs.AfterMove.{one_after}
+use Rattle.run_model.proofs.Laws.{asks_by_word, leads_on, keeps_on_move, stays_one}
 
 -- what a run's code found of a move before it made it uncounted
 pub record IsFound (r : Run) (pc word : ℕ) (i : Instr) (e : Effect) (loaded : ℕ) : Type 0 where
@@ -63,7 +58,7 @@ move_is n r pc word i e loaded f none = ap (move_of (lagged n r).hart) (fetched_
 free_is : (n : ℕ) (r : Run) (pc word : ℕ) (i : Instr) (e : Effect) (loaded : ℕ) → IsFound r pc word i e loaded → is_some (pending r.hart.csrs) ≡ false
     → ahead_of (lagged n r) ≡ Free
 free_is n r pc word i e loaded f none =
-    ahead_of_word (lagged n r) word (fetched_word n r pc word i e loaded f none)
+    asks_by_word (lagged n r) word (fetched_word n r pc word i e loaded f none)
     ∙ ap (λ x. data_ahead r (need_of x)) (effect_is n r pc word i e loaded f)
     ∙ f.free
 
@@ -92,17 +87,17 @@ goes_further n old r new g p none = (lagged n r, g, p.free n none, p.move n none
 
 pub one_on : (n : ℕ) (r t : Run) → IsOneRun r → Goes n r t → IsOneRun t
 one_on zero r t one g = subst IsOneRun (sym g) one
-one_on (suc n) r t one (m, g, f, is) = subst IsOneRun (sym is) (one_after m (one_on n r m one g))
+one_on (suc n) r t one (m, g, f, is) = subst IsOneRun (sym is) (stays_one m (one_on n r m one g))
 
 -- a burst leads on as its moves do
 pub led_on : (unit n : ℕ) (r t : Run) (h : ℕ) (s : Replay FlatState) → IsOneRun r → HasLed unit r h s → Goes n r t → HasLed unit t h s
 led_on unit zero r t h s one led g = subst (λ z. HasLed unit z h s) (sym g) led
 led_on unit (suc n) r t h s one led (m, g, f, is) =
-    subst (λ z. HasLed unit z h s) (sym is) (led_further unit m h s (led_on unit n r m h s one led g) (one_on n r m one g) f)
+    subst (λ z. HasLed unit z h s) (sym is) (leads_on unit m h s (led_on unit n r m h s one led g) (one_on n r m one g) f)
 
 pub keeps_on : (n : ℕ) (old r t : Run) → KeepsPages old r → Goes n r t → KeepsPages old t
 keeps_on zero old r t k g = subst (KeepsPages old) (sym g) k
-keeps_on (suc n) old r t k (m, g, f, is) = subst (KeepsPages old) (sym is) (keeps_further old m (keeps_on n old r m k g) f)
+keeps_on (suc n) old r t k (m, g, f, is) = subst (KeepsPages old) (sym is) (keeps_on_move old m (keeps_on n old r m k g) f)
 
 pub one_gone : (r t : Run) → IsOneRun r → HasGone r t → IsOneRun t
 one_gone r t one g = one_on g.moves r t one g.goes

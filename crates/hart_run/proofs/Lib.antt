@@ -1,1 +1,2 @@
-pub mod Bursts
+mod Bursts
+mod Agreement

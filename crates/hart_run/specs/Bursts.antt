@@ -10,6 +10,7 @@ abbrev pub Goes : ℕ → Run → Run → Type 0
 Goes zero r t = t ≡ r
 Goes (suc n) r t = (m : Run) × Goes n r m × (ahead_of m ≡ Free) × (t ≡ moved_by m (move_held m))
 
+-- some number of such moves lead from one to the other
 pub record HasGone (old new : Run) : Type 0 where
   pub moves : ℕ
   pub goes : Goes moves old new
@@ -25,6 +26,7 @@ pub record Passed (old new : Run) : Type 0 where
   pub free : (n : ℕ) → is_some (pending old.hart.csrs) ≡ false → ahead_of (lagged n old) ≡ Free
   pub move : (n : ℕ) → is_some (pending old.hart.csrs) ≡ false → lagged (suc n) new ≡ moved_by (lagged n old) (move_held (lagged n old))
 
+-- what an uncounted move leaves: the next move made, where it passes, and else the run as it was
 abbrev pub Passes : Run → Run → Bool → Type 0
 Passes old new false = new ≡ old
 Passes old new true = Passed old new

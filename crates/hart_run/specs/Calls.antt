@@ -17,12 +17,12 @@ use Rattle.run_model.specs.declared.asked.Ahead.{Ahead}
 use Rattle.run_model.specs.declared.asked.Pause.{Pause}
 
 -- it agrees with the first state of its board
-abbrev pub StartAgrees : Image → ℕ → ℕ → Run → Type 0
-StartAgrees image harts id r = (s : Replay FlatState) → IsFirst image harts s → Agrees r id s
+abbrev pub StartIsRight : Image → ℕ → ℕ → Run → Type 0
+StartIsRight image harts id r = (s : Replay FlatState) → IsFirst image harts s → Agrees r id s
 
 -- the answer is what its hart's next move asks for
-abbrev pub AheadAgrees : Run → Ahead → Type 0
-AheadAgrees r ahead = (h : ℕ) (s : Replay FlatState) → Agrees r h s → IsAhead r.frames.unit h s ahead
+abbrev pub AheadIsRight : Run → Ahead → Type 0
+AheadIsRight r ahead = (h : ℕ) (s : Replay FlatState) → Agrees r h s → IsAhead r.frames.unit h s ahead
 
 -- the memory's word at the pc
 abbrev pub WordAgrees : Run → Option ℕ → Type 0
@@ -46,6 +46,7 @@ abbrev pub TouchAgrees : Run → Run → ℕ → Type 0
 TouchAgrees old new loaded =
     (h : ℕ) (s : Replay FlatState) → Agrees old h s → Agrees new h (with_move h (after old.hart (next_move old.hart s.flat.memory) loaded) s)
 
+-- the hart with these lines
 abbrev pub lined : ℕ → Hart → Hart
 lined lines x = with_csrs (with_lines lines x.csrs) x
 

@@ -5,6 +5,7 @@ use Rattle.rv_hart.specs.State.{Hart}
 use Rattle.guest_pages.specs.Pages.{Pages}
 use Rattle.run_model.specs.Run.{Run, IsOneRun}
 
+-- the run that its parts are
 abbrev pub run_of : Hart → ℕ → List (Option Mode) → Pages → Run
 run_of hart count held frames = record { hart = hart; count = count; held = held; frames = frames }
 

@@ -16,7 +16,7 @@ ghost use Rattle.run_model.specs.Run.{run_at_start, hold_of, lacks, word_held, w
 ghost use Rattle.run_model.specs.Run.{stronger, needed_in, most_needed, claim_of, IsAbove, Steps, IsAtDevice, AheadAt, touched_by};
 ghost use Rattle.run_model.specs.Run.{taken, store_taken, given, store_given, hart_given, ends_with};
 ghost use Rattle.hart_run.specs.Bursts.{HasGone, Passes};
-ghost use Rattle.hart_run.specs.Calls.{StartAgrees, AheadAgrees, WordAgrees, FrameAgrees, ClaimAgrees, LegAgrees};
+ghost use Rattle.hart_run.specs.Calls.{StartIsRight, AheadIsRight, WordAgrees, FrameAgrees, ClaimAgrees, LegAgrees};
 ghost use Rattle.hart_run.specs.Calls.{TouchAgrees, LinesAgree, TakeAgrees, GiveAgrees, lined, bytes_given};
 
 use crate::decoded::Decodings;
@@ -99,7 +99,7 @@ impl HartRun {
     pub fn start(alloc: Global, id: u8, harts: u8, image: &Image) -> Result<HartRun, NoMemory>
         requires { id < harts }
         ensures run { IfOk result (λ r. r ≡ run_at_start id harts image.now) }
-        ensures agrees { IfOk result (StartAgrees image.now harts id) }
+        ensures agrees { IfOk result (StartIsRight image.now harts id) }
     {
         let number = image.bytes().len() / usize::from(image.unit());
         let Ok(held) = Vec::from_elem(alloc, None, number) else {
@@ -226,7 +226,7 @@ impl HartRun {
     /// What the next move asks for, without making it.
     pub fn ahead(&self) -> Ahead
         ensures ahead { result ≡ ahead_of self.now }
-        ensures agrees { AheadAgrees self.now result }
+        ensures agrees { AheadIsRight self.now result }
     {
         match self.hart.fetch_need() {
             Fetch::At(pc) => {
@@ -299,14 +299,14 @@ impl HartRun {
         match self.decodings.decode(self.hart.pc(), word) {
             Some(i) => self.hart.instr_effect(i, word),
             None => Effect::Traps {
-                cause: 2,
+                cause: rv_csr::causes::ILLEGAL_INSTRUCTION,
                 value: word,
             },
         }
     }
 
     /// Makes the move of a fetched word, where it asks for nothing.
-    #[tactic(auto, using(run_model::proofs::Aheads::ahead_of_word))]
+    #[tactic(auto, using(run_model::proofs::Laws::asks_by_word))]
     fn execute(&mut self, word: u32) -> Ahead
         requires word { word_of self.old ≡ Some word }
         requires count { self.old.count < 2 ^ 64 - 1 }
@@ -347,8 +347,8 @@ impl HartRun {
         }
     }
 
-    /// Makes the next move uncounted, where no interrupt is pending, it reads and changes no control register
-    /// but the counters, and it asks for nothing; else false.
+    /// Makes the next move uncounted, where no interrupt is pending, it reads no control register and changes
+    /// none but the counters, and it asks for nothing; else false.
     #[inline(always)]
     fn pass(&mut self) -> bool
         ensures { Passes self.old self.new result }

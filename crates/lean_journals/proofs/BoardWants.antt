@@ -25,7 +25,7 @@ use Rattle.run_model.specs.Run.{ahead_of}
 use Rattle.run_model.specs.Agreement.{Asks}
 use Rattle.run_model.specs.declared.asked.Ahead.{Ahead}
 use Rattle.run_model.specs.declared.asked.Ahead.TheVariants.{Free, Wants, AtDevice}
-use Rattle.run_model.proofs.Sight.{ahead_agrees}
+use Rattle.run_model.proofs.Laws.{ahead_agrees}
 use Rattle.replay_model.specs.Board.{board, hart_access}
 use Rattle.order_rules.specs.Holders.{held, nobody}
 use Rattle.replay_model.specs.State.{Replay, want}

@@ -22,7 +22,7 @@ use Rattle.replay_law.specs.Laws.{IsReplayable, first_flat, first_replay}
 use Rattle.replay_ends.specs.Laws.{OutcomeIsThere, OutcomeIsOne}
 use Rattle.replay_law.proofs.Timely.{reached_goes}
 use Rattle.replay_law.proofs.Orders.{orders_tell_outcome}
-use Rattle.replay_law.proofs.Ending.{full_order_is_there}
+use Rattle.replay_law.proofs.Progress.{full_order_is_there}
 
 both_empty : {X : Type 0} (xs ys : List X) → xs ++ ys ≡ [] → (xs ≡ []) × (ys ≡ [])
 both_empty [] ys e = (refl, e)

@@ -1,55 +1,32 @@
 -- An atomic move keeps its word to its hart.
-use Rattle.std.proofs.Common.{◌≡◌, ◌≢◌, ℕ, Bool, true, false, List, [], ◌∷◌, Option, Some, None, find, slice_get, slice_index, unwrap_or, true≢false}
+use Rattle.std.proofs.Common.{◌≡◌, ◌≢◌, ◌≤◌, ℕ, Bool, true, false, List, [], ◌∷◌, Option, Some, None, slice_get, slice_index, unwrap_or, true≢false}
 use Rattle.std.proofs.Common.{refl, sym, ap, ap₂, ◌∙◌, subst, if◌then◌else◌}
 use Rattle.std.specs.Prelude.{IsSome}
 use Rattle.std.specs.Option.{option_map_or}
 use Rattle.std.proofs.lemmas.Option.{none-some, same_Some}
-use Rattle.rv_words.specs.declared.shared.Mode.{Mode}
 use Rattle.rv_words.specs.declared.shared.Mode.TheVariants.{Write}
-use Rattle.rv_csr.specs.Traps.{pending}
 use Rattle.rv_hart.specs.State.{Hart}
 use Rattle.rv_hart.specs.Moves.{written, need_of}
 use Rattle.rv_hart.specs.Needs.{page_at}
-use Rattle.rv_hart.specs.Places.{WordInMemory}
 use Rattle.rv_hart.specs.declared.effect.Effect.{Effect}
 use Rattle.rv_hart.specs.declared.effect.Effect.TheVariants.{Sets, Jumps, Loads, Stores, Reserves, Commits, Fails, Updates, DeviceLoads, DeviceStores}
 use Rattle.rv_hart.specs.declared.effect.Effect.TheVariants.{WritesCsr, Returns, Traps}
 use Rattle.rv_hart.specs.declared.effect.Need.TheVariants as need
 use Rattle.order_rules.specs.Places.{is_number}
 use Rattle.flat_machine.specs.State.{FlatState}
-use Rattle.flat_machine.specs.Moves.{move_of, next_move, word_round, loaded_for}
+use Rattle.flat_machine.specs.Moves.{next_move, word_round, loaded_for}
 use Rattle.log_entry.specs.Parts.{conflict}
 use Rattle.replay_model.specs.Board.{board}
 use Rattle.order_rules.specs.Holders.{held}
 use Rattle.replay_model.specs.State.{Replay, want}
-use Rattle.run_model.specs.Run.{Run, hold_of, lacks, word_of, move_held, data_ahead, asked_of, ahead_of}
+use Rattle.run_model.specs.Run.{Run, IsAbove, NotWants, hold_of, move_held, data_ahead}
 use Rattle.run_model.specs.Agreement.{Agrees}
-use Rattle.run_model.specs.declared.asked.Ahead.TheVariants.{Free}
-use Rattle.run_model.proofs.Addresses.{word_above}
-use Rattle.run_model.proofs.Sight.{held_word}
-use Rattle.run_model.proofs.Aheads.{ahead_of_word}
-use Rattle.run_model.proofs.Moves.{NotWants, entry_need, next_is, there_by, free_write}
-use Rattle.run_model.proofs.DataPlaces.{DataAreThere}
+use Rattle.run_model.proofs.Laws.{sees_move, sees_held, data_not_wanted, data_lie_above, exclusive_is_held}
 use Rattle.replay_law.specs.Atomics.{Atomic, atomic_at, value_of, on_word, next_atomic}
 use Rattle.replay_law.proofs.GoodStates.{number_there}
 use Rattle.replay_law.proofs.Views.{Shape, Sound, view, view_agrees}
 use Rattle.replay_law.proofs.Deeds.{Done, not_wants}
 use Rattle.replay_law.proofs.Boards.{view_stays, index_of, same_where}
-
--- the data of the next move are not wanted, where nothing is
-data_by : (r : Run) (o : Option ℕ) → word_of r ≡ o → NotWants (ahead_of r) → NotWants (data_ahead r (need_of (move_of r.hart o)))
-data_by r None e n = subst (λ z. NotWants (data_ahead r z)) (sym (entry_need r.hart (pending r.hart.csrs))) tt
-data_by r (Some word) e n = subst NotWants (ahead_of_word r word e) n
-
-data_not_wanted : (r : Run) → NotWants (ahead_of r) → NotWants (data_ahead r (need_of (move_held r)))
-data_not_wanted r n = data_by r (word_of r) refl n
-
-asked_free : (o : Option (ℕ × Mode)) → NotWants (asked_of o) → asked_of o ≡ Free
-asked_free None n = refl
-asked_free (Some x) n = absurd n
-
-exclusive_held : (r : Run) (at : ℕ) → NotWants (data_ahead r (need.Exclusive at)) → hold_of r (page_at r.frames.unit at) ≡ Some Write
-exclusive_held r at n = free_write r at (asked_free (find (lacks r) ((page_at r.frames.unit at, Write) ∷ [])) n)
 
 -- an atomic move holds the page of its word in Write
 atomic_held : (r : Run) (e : Effect) (word : ℕ) → NotWants (data_ahead r (need_of e)) → atomic_at e ≡ Some word
@@ -58,10 +35,10 @@ atomic_held r (Sets rd value) word n is = absurd (none-some _ is)
 atomic_held r (Jumps rd target) word n is = absurd (none-some _ is)
 atomic_held r (Loads op rd at) word n is = absurd (none-some _ is)
 atomic_held r (Stores at size value) word n is = absurd (none-some _ is)
-atomic_held r (Reserves rd at) word n is = subst (λ z. hold_of r (page_at r.frames.unit z) ≡ Some Write) (same_Some _ _ is) (exclusive_held r at n)
-atomic_held r (Commits rd at value) word n is = subst (λ z. hold_of r (page_at r.frames.unit z) ≡ Some Write) (same_Some _ _ is) (exclusive_held r at n)
-atomic_held r (Fails rd at) word n is = subst (λ z. hold_of r (page_at r.frames.unit z) ≡ Some Write) (same_Some _ _ is) (exclusive_held r at n)
-atomic_held r (Updates op rd at operand) word n is = subst (λ z. hold_of r (page_at r.frames.unit z) ≡ Some Write) (same_Some _ _ is) (exclusive_held r at n)
+atomic_held r (Reserves rd at) word n is = subst (λ z. hold_of r (page_at r.frames.unit z) ≡ Some Write) (same_Some _ _ is) (exclusive_is_held r at n)
+atomic_held r (Commits rd at value) word n is = subst (λ z. hold_of r (page_at r.frames.unit z) ≡ Some Write) (same_Some _ _ is) (exclusive_is_held r at n)
+atomic_held r (Fails rd at) word n is = subst (λ z. hold_of r (page_at r.frames.unit z) ≡ Some Write) (same_Some _ _ is) (exclusive_is_held r at n)
+atomic_held r (Updates op rd at operand) word n is = subst (λ z. hold_of r (page_at r.frames.unit z) ≡ Some Write) (same_Some _ _ is) (exclusive_is_held r at n)
 atomic_held r (DeviceLoads rd at) word n is = absurd (none-some _ is)
 atomic_held r (DeviceStores at value) word n is = absurd (none-some _ is)
 atomic_held r (WritesCsr rd old number value) word n is = absurd (none-some _ is)
@@ -69,15 +46,14 @@ atomic_held r Returns word n is = absurd (none-some _ is)
 atomic_held r (Traps cause value) word n is = absurd (none-some _ is)
 
 -- a word of a page held in Write is the same in two states that the run agrees with
-word_same : (r : Run) (h : ℕ) (s t : Replay FlatState) (at : ℕ) → Agrees r h s → Agrees r h t → WordInMemory r.hart.pages at
+word_same : (r : Run) (h : ℕ) (s t : Replay FlatState) (at : ℕ) → Agrees r h s → Agrees r h t → 0x80000000 ≤ at
     → NotWants (data_ahead r (need.Exclusive at)) → word_round t.flat.memory at ≡ word_round s.flat.memory at
-word_same r h s t at a b there n =
-    let some : IsSome (hold_of r (page_at r.frames.unit at)) = subst IsSome (sym (exclusive_held r at n)) refl in
-    let above = word_above r.hart.pages at there in
-    sym (held_word r h t at b above some) ∙ held_word r h s at a above some
+word_same r h s t at a b above n =
+    let some : IsSome (hold_of r (page_at r.frames.unit at)) = subst IsSome (sym (exclusive_is_held r at n)) refl in
+    sym (sees_held r h t at b above some) ∙ sees_held r h s at a above some
 
 -- so what an atomic move stores is the same
-effect_same : (r : Run) (h : ℕ) (s t : Replay FlatState) (word count : ℕ) (e : Effect) → Agrees r h s → Agrees r h t → DataAreThere r.hart.pages e
+effect_same : (r : Run) (h : ℕ) (s t : Replay FlatState) (word count : ℕ) (e : Effect) → Agrees r h s → Agrees r h t → IsAbove (need_of e)
     → NotWants (data_ahead r (need_of e))
     → on_word word h count e (loaded_for t.flat.memory (need_of e)) ≡ on_word word h count e (loaded_for s.flat.memory (need_of e))
 effect_same r h s t word count (Sets rd value) a b there n = refl
@@ -88,7 +64,7 @@ effect_same r h s t word count (Reserves rd at) a b there n = refl
 effect_same r h s t word count (Commits rd at value) a b there n = refl
 effect_same r h s t word count (Fails rd at) a b there n = refl
 effect_same r h s t word count (Updates op rd at operand) a b there n =
-    ap (on_word word h count (Updates op rd at operand)) (word_same r h s t at a b there.1 n)
+    ap (on_word word h count (Updates op rd at operand)) (word_same r h s t at a b there n)
 effect_same r h s t word count (DeviceLoads rd at) a b there n = refl
 effect_same r h s t word count (DeviceStores at value) a b there n = refl
 effect_same r h s t word count (WritesCsr rd old number value) a b there n = refl
@@ -129,9 +105,9 @@ module _ (shape : Shape) where
           let a = view_agrees shape s h x sound at in
           let b = view_stays shape s g h r q t sound n a refl done in
           let w = not_wants r h s a none in
-          ap (λ e. on_word word h (slice_index s.flat.counts h) e (loaded_for t.memory (need_of e))) (next_is r h (record s { flat = t }) b w)
-          ∙ effect_same r h s (record s { flat = t }) word (slice_index s.flat.counts h) (move_held r) a b (there_by r.hart (word_of r)) (data_not_wanted r w)
-          ∙ sym (ap (λ e. on_word word h (slice_index s.flat.counts h) e (loaded_for s.flat.memory (need_of e))) (next_is r h s a w))
+          ap (λ e. on_word word h (slice_index s.flat.counts h) e (loaded_for t.memory (need_of e))) (sees_move r h (record s { flat = t }) b w)
+          ∙ effect_same r h s (record s { flat = t }) word (slice_index s.flat.counts h) (move_held r) a b (data_lie_above r) (data_not_wanted r w)
+          ∙ sym (ap (λ e. on_word word h (slice_index s.flat.counts h) e (loaded_for s.flat.memory (need_of e))) (sees_move r h s a w))
 
   -- who is about to make an atomic move on a word holds its page in Write
   pub word_held : (s : Replay FlatState) (h word : ℕ) → Sound shape s → want (board shape.unit) s h ≡ None → has_some (next_atomic word s.flat h) ≡ true
@@ -146,7 +122,7 @@ module _ (shape : Shape) where
         let r = view shape s h x in
         let a = view_agrees shape s h x sound at in
         let w = not_wants r h s a none in
-        let is : atomic_at (move_held r) ≡ Some word = ap atomic_at (sym (next_is r h s a w))
+        let is : atomic_at (move_held r) ≡ Some word = ap atomic_at (sym (sees_move r h s a w))
         ∙ on_word_is word h (slice_index s.flat.counts h) (next_move x s.flat.memory)
         (loaded_for s.flat.memory (need_of (next_move x s.flat.memory))) some in
         a.modes (page_at shape.unit word) ∙ atomic_held r (move_held r) word (data_not_wanted r w) is

@@ -30,7 +30,8 @@ use Rattle.std.proofs.lemmas.Option.{slice_get_within}
 use Rattle.replay_law.proofs.Local.{actor, is_on_devices, HasPages, HasDevices, IsUndisturbed, Meet, IsLocal}
 use Rattle.replay_law.proofs.Pages.{same_memory}
 use Rattle.replay_law.proofs.Views.{Fits, Shape, Sound, view, view_is_one, view_agrees}
-use Rattle.replay_law.proofs.Deeds.{deed, Fine, deed_of, act_done, Done, not_wants, sees_fetched}
+use Rattle.run_model.proofs.Laws.{sees_fetched}
+use Rattle.replay_law.proofs.Deeds.{deed, Fine, deed_of, act_done, Done, not_wants}
 
 -- the hart of an act that was made is there
 has_hart : (a : Act) (f t : FlatState) → next a f ≡ Some t → (x : Hart) × (slice_get f.harts (actor a) ≡ Some x)

@@ -10,7 +10,6 @@ use Rattle.rv_words.specs.declared.shared.Access.{Access}
 use Rattle.rv_words.specs.declared.shared.Input.{Input}
 use Rattle.rv_words.specs.declared.shared.Mode.TheVariants.{Write}
 use Rattle.rv_hart.specs.State.{Hart}
-use Rattle.rv_hart.specs.Effects.{fetch_of}
 use Rattle.rv_hart.specs.Moves.{after, written, need_of, with_reserved}
 use Rattle.rv_hart.specs.Needs.{page_at}
 use Rattle.rv_hart.specs.declared.effect.Effect.{Effect}
@@ -21,7 +20,7 @@ use Rattle.device_board.specs.State.{Devices, with_time}
 use Rattle.device_board.specs.Accesses.{touched}
 use Rattle.guest_pages.specs.Pages.{page_of}
 use Rattle.flat_machine.specs.State.{FlatState, OnBoard}
-use Rattle.flat_machine.specs.Moves.{fetched, next_move, access_of, stored_by}
+use Rattle.flat_machine.specs.Moves.{next_move, access_of, stored_by}
 use Rattle.flat_machine.specs.Acts.{next, ran, touch_made, poll_made, accessed, polled, lost, counted_up, with_lines_of}
 use Rattle.flat_machine.specs.declared.act.Act.{Act}
 use Rattle.flat_machine.specs.declared.act.Act.TheVariants as act
@@ -30,17 +29,15 @@ use Rattle.replay_model.specs.Board.{board, hart_access}
 use Rattle.order_rules.specs.Holders.{held}
 use Rattle.replay_model.specs.State.{Replay, want, IsCrewState}
 use Rattle.shared_types.proofs.Lists as lists
-use Rattle.run_model.specs.Run.{Run, word_of, ahead_of, move_held, loaded_held, moved_by, IsOneRun}
-use Rattle.run_model.specs.Legs.{DifferFor}
-use Rattle.run_model.specs.Agreement.{Agrees, Asks}
+use Rattle.run_model.specs.Run.{Run, NotWants, ahead_of, move_held, loaded_held, moved_by, IsOneRun}
+use Rattle.run_model.specs.Legs.{DifferFor, KeepsPages}
+use Rattle.run_model.specs.Agreement.{Agrees, Asks, after_move}
 use Rattle.run_model.specs.declared.asked.Ahead.{Ahead}
 use Rattle.run_model.specs.declared.asked.Ahead.TheVariants.{Free, Wants, AtDevice}
 use Rattle.shared_types.proofs.Lists.{set_here, set_there, bound_to, mapped}
 use Rattle.std.proofs.lemmas.Option.{slice_get_within}
-use Rattle.run_model.proofs.Sight.{ahead_agrees}
-use Rattle.run_model.proofs.Moves.{NotWants, fetched_where, next_is, move_made, same_board, after_move}
-use Rattle.run_model.proofs.AfterMove.{stored_length, stored_unit, agrees_after, differ_after, crew_after, one_after}
-use Rattle.run_model.proofs.Handover.{hart_agrees, move_agrees}
+use Rattle.run_model.specs.Laws.{IsMoved}
+use Rattle.run_model.proofs.Laws.{ahead_agrees, sees_move, moves_agree, keeps_on_move, stays_on_board, placed_agrees, counted_agrees}
 use Rattle.replay_law.proofs.Local.{actor, HasPages}
 use Rattle.replay_law.proofs.Verdicts.{nothing}
 use Rattle.replay_law.proofs.Views.{Shape, Sound, on_board}
@@ -89,10 +86,6 @@ device_reserves x (WritesCsr rd old number value) loaded access is = refl
 device_reserves x Returns loaded access is = refl
 device_reserves x (Traps cause value) loaded access is = refl
 
--- what it fetches is what it sees
-pub sees_fetched : (r : Run) (h : ℕ) (s : Replay FlatState) → Agrees r h s → NotWants (ahead_of r) → word_of r ≡ fetched r.hart s.flat.memory
-sees_fetched r h s a n = fetched_where r h s a (fetch_of r.hart) refl n
-
 free_where : (o : Ahead) → Asks None None o → o ≡ Free
 free_where Free asks = refl
 free_where (Wants page mode) asks = absurd (none-some _ asks)
@@ -111,7 +104,7 @@ touch_next : (r : Run) (h : ℕ) (s : Replay FlatState) (input : Input) → Agre
     (answered r input s.flat.devices))
 touch_next r h s input a fine =
     ap (option_and_then (λ x. touch_made s.flat h input x (next_move x s.flat.memory))) a.hart
-    ∙ ap (touch_made s.flat h input r.hart) (next_is r h s a fine)
+    ∙ ap (touch_made s.flat h input r.hart) (sees_move r h s a fine)
 
 -- an act that was made is a deed
 pub deed_of : (r : Run) (s : Replay FlatState) (a : Act) (t : FlatState) → Agrees r (actor a) s → HasPages (board r.frames.unit) s a → next a s.flat ≡ Some t
@@ -177,17 +170,19 @@ module _ (shape : Shape) where
       let x : Hart = after r.hart (move_held r) (loaded_held r (need_of (move_held r))) in
       let w : Wrote = written (move_held r) (loaded_held r (need_of (move_held r))) in
       let crew : IsCrewState (board r.frames.unit) s = subst (λ u. IsCrewState (board u) s) (sym unit_is) sound.crew in
-      let differ : DifferFor shape.unit h s (after_move r h s) =
-      subst (λ u. DifferFor u h s (after_move r h s)) unit_is (differ_after r h s a one crew free) in
-      let again = agrees_after r h s a one free in
+      let m : IsMoved r h s = moves_agree r h s a one crew free in
+      let kept : KeepsPages r (moved_by r (move_held r)) =
+      keeps_on_move r r (record { held = refl; unit_is = refl; number = refl; board = (refl, refl); frames = λ page n. refl }) free in
+      let differ : DifferFor shape.unit h s (after_move r h s) = subst (λ u. DifferFor u h s (after_move r h s)) unit_is m.others in
+      let again = m.agrees in
       let memory_same : length (stored_by s.flat.memory w) ≡ length s.flat.memory = again.memory
-      ∙ ap₂ (λ k u. k * u) (stored_length r.frames w) (stored_unit r.frames w) ∙ sym a.memory in
-      let board_same = same_board r.hart (move_held r) (loaded_held r (need_of (move_held r))) in
+      ∙ ap₂ (λ k u. k * u) kept.number kept.unit_is ∙ sym a.memory in
+      let board_same = kept.board in
       let on : OnBoard shape.harts shape.pages r.hart = on_board shape.harts shape.pages s.flat.harts h r.hart sound.sized.same_board a.hart in
       record {
         agrees = again;
-        unit_is = stored_unit r.frames w ∙ unit_is;
-        one = one_after r one;
+        unit_is = kept.unit_is ∙ unit_is;
+        one = m.one;
         harts = differ.harts;
         counts = differ.counts;
         pages_kept = differ.pages;
@@ -196,7 +191,7 @@ module _ (shape : Shape) where
               (slice_index s.flat.counts h + 1) x w sound.sized memory_same (board_same.0 ∙ on.0, board_same.1 ∙ on.1);
           table = sound.table;
           rows = sound.rows;
-          crew = subst (λ u. IsCrewState (board u) (after_move r h s)) unit_is (crew_after r h s a one crew free);
+          crew = subst (λ u. IsCrewState (board u) (after_move r h s)) unit_is m.crew;
         };
       }
 
@@ -254,7 +249,8 @@ module _ (shape : Shape) where
   pub act_done : (r : Run) (s : Replay FlatState) (a : Act) (q : Run × Devices) → Sound shape s → Agrees r (actor a) s → r.frames.unit ≡ shape.unit
       → IsOneRun r → Fine r a → deed r a s.flat.devices ≡ Some q → Acted s a q
   act_done r s (act.Run h) q sound agrees unit_is one free is =
-      let m = mapped (λ (f : FlatState). record s { flat = f }) (next (act.Run h) s.flat) (after_move r h s) (move_made r h s agrees free) in
+      let m = mapped (λ (f : FlatState). record s { flat = f }) (next (act.Run h) s.flat) (after_move r h s)
+      (moves_agree r h s agrees one (subst (λ u. IsCrewState (board u) s) (sym unit_is) sound.crew) free).made in
       subst (Acted s (act.Run h)) (same_Some _ _ is) (record {
         state = (after_move r h s).flat;
         did = m.1 ∙ ap (λ (x : Replay FlatState). Some x.flat) m.2;
@@ -266,7 +262,7 @@ module _ (shape : Shape) where
       let e = move_held r in
       let access = bound_to (λ access. touched s.flat.devices access input) (access_of (need_of (move_held r))) c.0 c.2 in
       let y : Hart = with_lines_of c.0.0 h (after r.hart (move_held r) c.0.1) in
-      let same = same_board r.hart (move_held r) c.0.1 in
+      let same = stays_on_board r.hart (move_held r) c.0.1 in
       let on : OnBoard shape.harts shape.pages r.hart = on_board shape.harts shape.pages s.flat.harts h r.hart sound.sized.same_board agrees.hart in
       subst (Acted s (act.Touch h input)) c.3 (record {
         state = accessed s.flat h r.hart (move_held r) c.0;
@@ -275,7 +271,7 @@ module _ (shape : Shape) where
         done = hart_done (record r { hart = y; count = r.count + 1 }) h s y (counted_up h s.flat.counts) c.0.0 sound
             (slice_get_within s.flat.harts h r.hart agrees.hart) (length-set s.flat.counts h (slice_index s.flat.counts h + 1))
             (λ g n. set_there s.flat.counts h g (slice_index s.flat.counts h + 1) n)
-            (with_devices (record r { hart = y; count = r.count + 1 }) h _ c.0.0 (move_agrees r h s y agrees same.0)) unit_is
+            (with_devices (record r { hart = y; count = r.count + 1 }) h _ c.0.0 (counted_agrees r h s y agrees same.0)) unit_is
             (with_hart_is_one r y (r.count + 1) one same.1) (same.0 ∙ on.0, same.1 ∙ on.1)
             (λ page at. own_reserves r h s page sound agrees
             (ap (option_map (page_at shape.unit)) (sym (device_reserves r.hart (move_held r) c.0.1 access.0 access.1)) ∙ at));
@@ -291,7 +287,7 @@ module _ (shape : Shape) where
         did = ap (option_and_then (poll_made s.flat h time)) agrees.hart
             ∙ ap (λ b. if b then None else Some (polled s.flat h r.hart (with_time time s.flat.devices))) c.0;
         done = hart_done (record r { hart = y }) h s y s.flat.counts d sound (slice_get_within s.flat.harts h r.hart agrees.hart) refl (λ g n. refl)
-            (with_devices (record r { hart = y }) h _ d (hart_agrees r h s y agrees refl)) unit_is (with_hart_is_one r y r.count one refl) on
+            (with_devices (record r { hart = y }) h _ d (placed_agrees r h s y agrees refl)) unit_is (with_hart_is_one r y r.count one refl) on
             (λ page at. own_reserves r h s page sound agrees at);
         devices = refl;
       })
@@ -303,6 +299,6 @@ module _ (shape : Shape) where
         did = ap (option_map (lost s.flat h)) agrees.hart;
         done = hart_done (record r { hart = y }) h s y s.flat.counts s.flat.devices sound (slice_get_within s.flat.harts h r.hart agrees.hart) refl
             (λ g n. refl)
-            (hart_agrees r h s y agrees refl) unit_is (with_hart_is_one r y r.count one refl) on (λ page at. absurd (none-some _ at));
+            (placed_agrees r h s y agrees refl) unit_is (with_hart_is_one r y r.count one refl) on (λ page at. absurd (none-some _ at));
         devices = refl;
       })

@@ -28,7 +28,7 @@ use Rattle.replay_model.specs.Items.{Item, Ended, Move, Makes, CanGo, verdict_on
 use Rattle.order_rules.specs.Laws.{Follow}
 use Rattle.order_rules.proofs.Follow.{still_follow, follow_is_crew, held_here, held_elsewhere}
 use Rattle.std.proofs.lemmas.Option.{slice_get_within, get_or_from_slice_get}
-use Rattle.replay_law.proofs.Local.{IsSound, IsLocal}
+use Rattle.replay_law.proofs.Local.{IsWellHeld, IsLocal}
 use Rattle.replay_law.proofs.Steps.{IsMade, act_of, flat_after, built, step_went}
 use Rattle.replay_law.proofs.Cursors.{guard_of, IsLeft}
 use Rattle.replay_law.proofs.Tables.{held_stays, table_size, rows_size}
@@ -62,7 +62,7 @@ no_gain_of_write log h i count page seq mode waits kept at held =
 
 module _ {S V : Type 0} (flat : Flat S V) (Sized : S → Type 0) (harts pages : ℕ) (local : IsLocal flat Sized harts pages) where
   abbrev Sound : Replay S → Type 0
-  Sound s = IsSound flat Sized harts pages s
+  Sound s = IsWellHeld flat Sized harts pages s
 
   flat_lasts : (s : Replay S) (g : ℕ) (p : Option Act) (a : S) → Sound s → ((act : Act) → p ≡ Some act → ActIs flat s g act)
       → flat_after flat s.flat p ≡ Some a → Sound (record s { flat = a })

@@ -14,7 +14,7 @@ pub mod Orders
 pub mod AtomicOrders
 pub mod Streams
 pub mod Totals
-pub mod Ending
+pub mod Progress
 pub mod Times
 pub mod Timely
 pub mod WorkedAtomics

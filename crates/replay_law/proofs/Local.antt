@@ -50,7 +50,7 @@ module _ {S V : Type 0} (flat : Flat S V) where
   module _ (Sized : S → Type 0) (harts pages : ℕ) where
     -- the flat state and the table are of the board's size, the holders are CREW, and each live reservation lies in a page that
     -- its hart holds in Write
-    pub record IsSound (s : Replay S) : Type 0 where
+    pub record IsWellHeld (s : Replay S) : Type 0 where
       pub sized : Sized s.flat
       pub table : length s.holders ≡ pages
       pub rows : (page : ℕ) → page < pages → length (row s.holders page) ≡ harts
@@ -58,12 +58,12 @@ module _ {S V : Type 0} (flat : Flat S V) where
 
     -- acts on held pages disturb nobody else
     pub record IsLocal : Type 0 where
-      pub lasts : (s : Replay S) (act : Act) (t : S) → IsSound s → HasPages s act → flat.next s.flat act ≡ Some t → IsSound (record s { flat = t })
+      pub lasts : (s : Replay S) (act : Act) (t : S) → IsWellHeld s → HasPages s act → flat.next s.flat act ≡ Some t → IsWellHeld (record s { flat = t })
       pub loses : (s t : S) (h : ℕ) → flat.next s (Lose h) ≡ Some t → flat.reserved_page t h ≡ None
-      pub undisturbed : (s : Replay S) (act : Act) (t : S) (h : ℕ) → IsSound s → HasPages s act → flat.next s.flat act ≡ Some t → h ≢ actor act
+      pub undisturbed : (s : Replay S) (act : Act) (t : S) (h : ℕ) → IsWellHeld s → HasPages s act → flat.next s.flat act ≡ Some t → h ≢ actor act
           → IsUndisturbed s t h
-      pub devices : (s : Replay S) (act : Act) (t : S) (h : ℕ) → IsSound s → HasPages s act → flat.next s.flat act ≡ Some t → h ≢ actor act
+      pub devices : (s : Replay S) (act : Act) (t : S) (h : ℕ) → IsWellHeld s → HasPages s act → flat.next s.flat act ≡ Some t → h ≢ actor act
           → is_on_devices act ≡ false → HasDevices s t h
-      pub meet : (s : Replay S) (one two : Act) (a b : S) → IsSound s → actor one ≢ actor two → (is_on_devices one ≡ true → is_on_devices two ≡ true → ⊥)
+      pub meet : (s : Replay S) (one two : Act) (a b : S) → IsWellHeld s → actor one ≢ actor two → (is_on_devices one ≡ true → is_on_devices two ≡ true → ⊥)
           → HasPages s one → HasPages s two → flat.next s.flat one ≡ Some a → flat.next s.flat two ≡ Some b → Meet s one two a b
       pub nobody : (s : S) (h : ℕ) → Sized s → harts ≤ h → flat.next s (Run h) ≡ None

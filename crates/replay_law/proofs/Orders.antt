@@ -26,7 +26,7 @@ use Rattle.order_rules.specs.Holders.{held, nobody}
 use Rattle.replay_model.specs.State.{Replay}
 use Rattle.replay_model.specs.Items.{Move, Verdict, HasEnded, Holds, CanGo, HasDiverged, item_at, told_of, step, goes, made, verdict_on, next_item}
 use Rattle.order_rules.proofs.Follow.{follow_is_crew}
-use Rattle.run_model.proofs.Start.{row_of_nobody, held_of_nobody}
+use Rattle.run_model.proofs.Laws.{nobody_holds, nobody_has_rows}
 use Rattle.replay_law.specs.Laws.{IsReplayable, first_flat, first_replay, ItemsCommute, EqualSharesAgree, AllOrdersAgree, LeastEndsThere, OrdersTellOutcome}
 use Rattle.replay_law.proofs.Views.{Fits, shape_of}
 use Rattle.replay_law.proofs.Boards.{board_local}
@@ -68,13 +68,13 @@ module _ (log : Log) (image : Image) (is : IsReplayable log image) where
       let n = length log.streams in
       let follow : (page h : ℕ) → held (nobody (units_of log) (length log.streams)) page h
       ≡ rules.held log page h (slice_index (replicate (units_of log) 0) page) =
-      λ page h. held_of_nobody (units_of log) (length log.streams) page h ∙ sym (ap (rules.held log page h) (no_number (units_of log) page)) in
+      λ page h. nobody_holds (units_of log) (length log.streams) page h ∙ sym (ap (rules.held log page h) (no_number (units_of log) page)) in
       record {
         sound = record {
           sized = subst (λ p. FitsTogether (first_flat log image).harts (replicate n 0) image.bytes p n) (sym is.pages)
               (start_fits image n image.pages image.entry n (first_flat log image).harts (replicate n 0) image.bytes is.whole refl refl refl refl refl);
           table = length-replicate (units_of log) (replicate n None);
-          rows = λ page l. ap length (row_of_nobody (units_of log) n page l) ∙ length-replicate n None;
+          rows = λ page l. ap length (nobody_has_rows (units_of log) n page l) ∙ length-replicate n None;
           crew = record {
             holders = follow_is_crew log (nobody (units_of log) n) (replicate (units_of log) 0) is.orderly.holders_are_crew follow;
             reservations = λ h page e. absurd (none-some _ (sym (ap (option_map (page_at (unit_of log))) (no_reservation n image.pages image.entry h)) ∙ e));

@@ -14,7 +14,7 @@ use Rattle.flat_machine.specs.declared.act.Act.TheVariants.{Run, Touch, Poll, Lo
 use Rattle.replay_model.specs.Flat.{Flat}
 use Rattle.replay_model.specs.State.{Replay, want}
 use Rattle.replay_model.specs.Items.{Item, Ended, Move, Makes, CanGo, item_at, verdict_on, told_of, next_item, step}
-use Rattle.replay_law.proofs.Local.{actor, is_on_devices, HasPages, HasDevices, IsUndisturbed, IsSound, IsLocal}
+use Rattle.replay_law.proofs.Local.{actor, is_on_devices, HasPages, HasDevices, IsUndisturbed, IsWellHeld, IsLocal}
 use Rattle.replay_law.proofs.Steps.{IsMade, act_with, hold_in, act_of, flat_after, cursor_after, built, step_went, step_goes}
 use Rattle.replay_law.proofs.Cursors.{guard_of, IsLeft, left_stays, takings, one_ordinal}
 use Rattle.replay_law.proofs.Tables.{held_stays, tables_meet}
@@ -104,7 +104,7 @@ module _ {S V : Type 0} (flat : Flat S V) where
 
   module _ (Sized : S → Type 0) (harts pages : ℕ) (local : IsLocal flat Sized harts pages) where
     abbrev Sound : Replay S → Type 0
-    Sound s = IsSound flat Sized harts pages s
+    Sound s = IsWellHeld flat Sized harts pages s
 
     undisturbed_after : (s : Replay S) (g h : ℕ) (p : Option Act) (a : S) → Sound s → h ≢ g → AreOwn s g p → flat_after flat s.flat p ≡ Some a
         → IsUndisturbed flat s a h

@@ -12,7 +12,7 @@ use Rattle.elf_image.specs.Image.{Image}
 use Rattle.orders_law.specs.Orders.{Leads}
 use Rattle.log_entry.specs.declared.log.Entry.TheVariants as entries
 use Rattle.log_entry.specs.declared.log.Log.{Log}
-use Rattle.log_entry.specs.Parts.{time_of_input, unit_of, units_of}
+use Rattle.log_entry.specs.Parts.{time_of_input, unit_of}
 use Rattle.order_rules.specs.Cursor.{Cursor, first_left}
 use Rattle.order_rules.specs.Rules.{time_before}
 use Rattle.flat_machine.specs.State.{FlatState}
@@ -36,7 +36,7 @@ use Rattle.replay_law.proofs.Deeds.{chosen, touched_run, polled_run, answered}
 use Rattle.replay_law.proofs.Boards.{made_of, calm}
 use Rattle.replay_law.proofs.Streams.{not_not}
 use Rattle.replay_law.proofs.Times.{not_before, time_after, touched_times}
-use Rattle.replay_law.proofs.Ending.{Going, going_first, going_lasts, makes_means}
+use Rattle.replay_law.proofs.Progress.{Going, going_first, going_lasts, makes_means}
 
 abbrev can : Verdict → Bool
 can CanGo = true

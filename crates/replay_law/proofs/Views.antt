@@ -7,6 +7,7 @@ use Rattle.std.proofs.lemmas.Bool.{cases_lt}
 use Rattle.std.proofs.lemmas.List.FromFn.{length-map-range_with_len, get_or-map-range_with_len}
 use Rattle.std.proofs.lemmas.Option.{slice_get_past, slice_get-get_or, unwrap_or-slice_get}
 use Rattle.rv_words.specs.Limits.{IsUnit, page_bytes}
+use Rattle.rv_words.proofs.Units.{at_units}
 use Rattle.rv_words.specs.declared.shared.Mode.{Mode}
 use Rattle.rv_hart.specs.State.{Hart}
 use Rattle.flat_machine.specs.State.{FlatState, OnBoard, FitsTogether}
@@ -19,8 +20,7 @@ use Rattle.replay_model.specs.State.{Replay}
 use Rattle.run_model.specs.Run.{Run, hold_of, IsOneRun}
 use Rattle.run_model.specs.Agreement.{Agrees}
 use Rattle.std.proofs.lemmas.Option.{slice_get_within}
-use Rattle.run_model.proofs.Addresses.{of_unit}
-use Rattle.replay_law.proofs.Local.{IsSound}
+use Rattle.replay_law.proofs.Local.{IsWellHeld}
 
 -- a state of a board with so many harts and pages
 abbrev pub Fits : ℕ → ℕ → FlatState → Type 0
@@ -81,12 +81,12 @@ on_board n p xs h x all at =
 
 units_number : (shape : Shape) (size : ℕ) → size ≡ page_bytes * shape.pages → size / shape.unit ≡ shape.units
 units_number shape size long =
-    of_unit (λ u. shape.units * u ≡ page_bytes * shape.pages → size / u ≡ shape.units) shape.unit shape.unit_is
+    at_units (λ u. shape.units * u ≡ page_bytes * shape.pages → size / u ≡ shape.units) shape.unit shape.unit_is
     (λ w. omega (arith, long, w)) (λ w. omega (arith, long, w)) (λ w. omega (arith, long, w)) shape.whole
 
 module _ (shape : Shape) where
   abbrev pub Sound : Replay FlatState → Type 0
-  Sound s = IsSound (board shape.unit) (Fits shape.harts shape.pages) shape.harts shape.units s
+  Sound s = IsWellHeld (board shape.unit) (Fits shape.harts shape.pages) shape.harts shape.units s
 
   number_of_pages : (s : Replay FlatState) → Sound s → length s.flat.memory / shape.unit ≡ shape.units
   number_of_pages s sound = units_number shape (length s.flat.memory) sound.sized.memory_size

@@ -9,6 +9,7 @@ use Rattle.device_board.specs.State.{devices_at_start}
 use Rattle.flat_machine.specs.State.{FlatState}
 use Rattle.replay_law.specs.Atomics.{Atomic, on_word, next_atomic}
 
+-- one atomic move of a hart at a count, with what it stored
 abbrev pub by : ℕ → ℕ → Option ℕ → List Atomic
 by hart count stored = record { hart = hart; count = count; stored = stored } ∷ []
 
@@ -16,6 +17,7 @@ by hart count stored = record { hart = hart; count = count; stored = stored } �
 abbrev pub loading : ℕ → Hart
 loading id = record (hart_at_start id 2 1 0x80000000) { regs = replicate 5 0 ++ 0x80000008 ∷ replicate 25 0 }
 
+-- the machine that they make, with that LR in memory
 abbrev pub two_harts : FlatState
 two_harts = record {
   harts = loading 0 ∷ loading 1 ∷ [];
@@ -24,6 +26,7 @@ two_harts = record {
   devices = devices_at_start 2;
 }
 
+-- what each effect is on the word at place 8, and what each of the two harts is about to do
 pub record AreAtomic : Type 0 where
   pub reserved : on_word 8 1 5 (Reserves 3 8) 7 ≡ by 1 5 None
   pub committed : on_word 8 1 5 (Commits 3 8 9) 7 ≡ by 1 5 (Some 9)

@@ -1,24 +1,19 @@
 -- Addresses, pages of a unit, and places in them.
-use Rattle.std.proofs.Common.{◌≡◌, inl, inr, ℕ, ◌+◌, ◌*◌, ◌/◌, ◌%◌, ◌<◌, ◌≤◌, sym, subst, arith}
+use Rattle.std.proofs.Common.{◌≡◌, inl, inr, ℕ, ◌+◌, ◌*◌, ◌/◌, ◌%◌, ◌<◌, ◌≤◌, subst, arith}
 use Rattle.rv_words.specs.Limits.{IsUnit, page_bytes}
+use Rattle.rv_words.proofs.Units.{at_units}
 use Rattle.rv_hart.specs.Needs.{page_at}
 use Rattle.rv_hart.specs.Places.{IsSize, WordInMemory, StoresInMemory}
 use Rattle.flat_machine.specs.Moves.{place_in_memory}
 
--- what holds of each unit
-pub of_unit : (P : ℕ → Type 0) (unit : ℕ) → IsUnit unit → P 256 → P 1024 → P 4096 → P unit
-of_unit P unit (inl e) a b c = subst P (sym e) a
-of_unit P unit (inr (inl e)) a b c = subst P (sym e) b
-of_unit P unit (inr (inr e)) a b c = subst P (sym e) c
-
 -- the aligned word round an address lies in its page
 pub word_place : (unit at : ℕ) → IsUnit unit → 0x80000000 ≤ at → page_at unit at * unit + place_in_memory (at / 4 * 4) % unit ≡ place_in_memory (at / 4 * 4)
 word_place unit at is l =
-    of_unit (λ u. page_at u at * u + place_in_memory (at / 4 * 4) % u ≡ place_in_memory (at / 4 * 4)) unit is (omega (arith, l)) (omega (arith, l))
+    at_units (λ u. page_at u at * u + place_in_memory (at / 4 * 4) % u ≡ place_in_memory (at / 4 * 4)) unit is (omega (arith, l)) (omega (arith, l))
     (omega (arith, l))
 
 pub word_fits : (unit at : ℕ) → IsUnit unit → 0x80000000 ≤ at → place_in_memory (at / 4 * 4) % unit + 4 ≤ unit
-word_fits unit at is l = of_unit (λ u. place_in_memory (at / 4 * 4) % u + 4 ≤ u) unit is (omega (arith, l)) (omega (arith, l)) (omega (arith, l))
+word_fits unit at is l = at_units (λ u. place_in_memory (at / 4 * 4) % u + 4 ≤ u) unit is (omega (arith, l)) (omega (arith, l)) (omega (arith, l))
 
 pub word_above : (pages at : ℕ) → WordInMemory pages at → 0x80000000 ≤ at
 word_above pages at w = let a = w.0 in omega arith
@@ -28,23 +23,23 @@ pub page_below : (unit number pages at : ℕ) → IsUnit unit → number * unit 
 page_below unit number pages at is whole w =
     let a = w.0 in
     let b = w.1 in
-    of_unit (λ u. number * u ≡ page_bytes * pages → page_at u at < number) unit is
+    at_units (λ u. number * u ≡ page_bytes * pages → page_at u at < number) unit is
     (λ e. omega (arith, a, b, e)) (λ e. omega (arith, a, b, e)) (λ e. omega (arith, a, b, e)) whole
 
 -- and so do the bytes of an aligned store
 pub store_place : (unit at : ℕ) → IsUnit unit → 0x80000000 ≤ at → page_at unit at * unit + place_in_memory at % unit ≡ place_in_memory at
-store_place unit at is l = of_unit (λ u. page_at u at * u + place_in_memory at % u ≡ place_in_memory at) unit is (omega (arith, l)) (omega (arith, l))
+store_place unit at is l = at_units (λ u. page_at u at * u + place_in_memory at % u ≡ place_in_memory at) unit is (omega (arith, l)) (omega (arith, l))
     (omega (arith, l))
 
 pub store_fits : (unit at size : ℕ) → IsUnit unit → IsSize size → at % size ≡ 0 → 0x80000000 ≤ at → place_in_memory at % unit + size ≤ unit
 store_fits unit at size is (inl one) a l =
-    of_unit (λ u. place_in_memory at % u + size ≤ u) unit is (omega (arith, l, one)) (omega (arith, l, one)) (omega (arith, l, one))
+    at_units (λ u. place_in_memory at % u + size ≤ u) unit is (omega (arith, l, one)) (omega (arith, l, one)) (omega (arith, l, one))
 store_fits unit at size is (inr (inl two)) a l =
     let b : at % 2 ≡ 0 = subst (λ z. at % z ≡ 0) two a in
-    of_unit (λ u. place_in_memory at % u + size ≤ u) unit is (omega (arith, b, two, l)) (omega (arith, b, two, l)) (omega (arith, b, two, l))
+    at_units (λ u. place_in_memory at % u + size ≤ u) unit is (omega (arith, b, two, l)) (omega (arith, b, two, l)) (omega (arith, b, two, l))
 store_fits unit at size is (inr (inr four)) a l =
     let b : at % 4 ≡ 0 = subst (λ z. at % z ≡ 0) four a in
-    of_unit (λ u. place_in_memory at % u + size ≤ u) unit is (omega (arith, b, four, l)) (omega (arith, b, four, l)) (omega (arith, b, four, l))
+    at_units (λ u. place_in_memory at % u + size ≤ u) unit is (omega (arith, b, four, l)) (omega (arith, b, four, l)) (omega (arith, b, four, l))
 
 positive : (size : ℕ) → IsSize size → 1 ≤ size
 positive size (inl one) = omega arith
@@ -56,17 +51,17 @@ store_page unit number pages at size is whole s =
     let a = s.inside.0 in
     let b = s.inside.1 in
     let c = positive size s.size_is in
-    of_unit (λ u. number * u ≡ page_bytes * pages → page_at u at < number) unit is
+    at_units (λ u. number * u ≡ page_bytes * pages → page_at u at < number) unit is
     (λ e. omega (arith, a, b, c, e)) (λ e. omega (arith, a, b, c, e)) (λ e. omega (arith, a, b, c, e)) whole
 
 -- the page of such a store lies in the memory whole
 pub page_inside : (unit number page : ℕ) → IsUnit unit → page < number → page * unit + unit ≤ number * unit
-page_inside unit number page is l = of_unit (λ u. page * u + u ≤ number * u) unit is (omega (arith, l)) (omega (arith, l)) (omega (arith, l))
+page_inside unit number page is l = at_units (λ u. page * u + u ≤ number * u) unit is (omega (arith, l)) (omega (arith, l)) (omega (arith, l))
 
 -- addresses of one word are of one page
 pub one_page : (unit at word : ℕ) → IsUnit unit → 0x80000000 ≤ at → at / 4 ≡ word / 4 → page_at unit at ≡ page_at unit word
-one_page unit at word is l e = of_unit (λ u. page_at u at ≡ page_at u word) unit is (omega (arith, l, e)) (omega (arith, l, e)) (omega (arith, l, e))
+one_page unit at word is l e = at_units (λ u. page_at u at ≡ page_at u word) unit is (omega (arith, l, e)) (omega (arith, l, e)) (omega (arith, l, e))
 
 -- bytes of so many whole pages are so many units
 pub whole_units : (unit pages : ℕ) → IsUnit unit → page_bytes * pages / unit * unit ≡ page_bytes * pages
-whole_units unit pages is = of_unit (λ u. page_bytes * pages / u * u ≡ page_bytes * pages) unit is (omega arith) (omega arith) (omega arith)
+whole_units unit pages is = at_units (λ u. page_bytes * pages / u * u ≡ page_bytes * pages) unit is (omega arith) (omega arith) (omega arith)

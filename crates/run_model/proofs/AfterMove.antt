@@ -1,10 +1,9 @@
 -- After one move the run agrees with the flat machine again, which changed for its hart alone.
-use Rattle.std.proofs.Common.{◌≡◌, ◌≢◌, inl, inr, ℕ, ◌+◌, ◌*◌, ◌/◌, ◌%◌, ◌<◌, ◌≤◌, Bool, true, false, cond, List, [], ◌++◌, take, drop, map, length}
-use Rattle.std.proofs.Common.{length-append, length-drop, Option, Some, None, slice_get, slice_set, slice_index, unwrap_or, true≢false, refl, sym, ap}
+use Rattle.std.proofs.Common.{◌≡◌, ◌≢◌, inl, inr, ℕ, ◌+◌, ◌*◌, ◌/◌, ◌%◌, ◌<◌, ◌≤◌, Bool, true, false, cond, [], ◌++◌, map, length}
+use Rattle.std.proofs.Common.{Option, Some, None, slice_get, slice_set, slice_index, unwrap_or, true≢false, refl, sym, ap}
 use Rattle.std.proofs.Common.{ap₂, ◌∙◌, subst, arith}
 use Rattle.std.specs.Prelude.{IsSome}
 use Rattle.std.specs.Option.{option_map, option_and_then}
-use Rattle.std.proofs.Math.ListN.{length-take}
 use Rattle.std.proofs.lemmas.Bool.{cases_eq}
 use Rattle.std.proofs.lemmas.Bool.Decides.{eqb_tells}
 use Rattle.std.proofs.lemmas.List.{length-map, length-set}
@@ -12,6 +11,7 @@ use Rattle.std.proofs.lemmas.Option.{slice_get-map, slice_get_within, get_or_fro
 use Rattle.rv_words.specs.declared.shared.Mode.TheVariants.{Write}
 use Rattle.rv_words.specs.Limits.{IsUnit, page_bytes}
 use Rattle.rv_words.specs.Memory.{low_bytes, put}
+use Rattle.rv_words.proofs.Memory.{length_put}
 use Rattle.rv_hart.specs.State.{Hart}
 use Rattle.rv_hart.specs.Moves.{after, written, need_of, with_reserved}
 use Rattle.rv_hart.specs.Needs.{page_at}
@@ -26,12 +26,12 @@ use Rattle.replay_model.specs.Board.{board}
 use Rattle.order_rules.specs.Holders.{held}
 use Rattle.replay_model.specs.State.{Replay, IsCrewState}
 use Rattle.run_model.specs.Run.{Run, hold_of, word_of, move_held, ahead_of, loaded_held, stored_in, moved_by, IsOneRun}
-use Rattle.run_model.specs.Agreement.{Agrees}
+use Rattle.run_model.specs.Agreement.{Agrees, after_move}
 use Rattle.run_model.specs.Legs.{DifferFor}
 use Rattle.run_model.specs.declared.asked.Ahead.TheVariants.{Free}
 use Rattle.run_model.proofs.Addresses.{store_place, store_fits, store_page, page_inside, one_page}
 use Rattle.shared_types.proofs.Lists.{set_here, set_there}
-use Rattle.run_model.proofs.Moves.{WriteHeld, ReservesHeld, write_by, reserve_by, same_board, length-low_bytes, there_by, free_data, after_move}
+use Rattle.run_model.proofs.Moves.{WriteHeld, ReservesHeld, write_by, reserve_by, same_board, length-low_bytes, there_by, free_data}
 
 -- a store within a page of the memory, by the page's place and the place in it
 store_in_page : (r : Run) (h : ℕ) (s : Replay FlatState) (at size value : ℕ) → Agrees r h s → IsOneRun r → WriteHeld r (wrote.Bytes at size value)
@@ -59,17 +59,6 @@ WroteAlike r s w =
     (length (stored_by s.flat.memory w) ≡ length s.flat.memory)
     × (((page : ℕ) → IsSome (hold_of r page) → page_of r.frames.unit (stored_by s.flat.memory w) page ≡ bytes_of (stored_in r.frames w) page)
     × ((page : ℕ) → hold_of r page ≢ Some Write → page_of r.frames.unit (stored_by s.flat.memory w) page ≡ page_of r.frames.unit s.flat.memory page))
-
-length_put : (mem bytes : List ℕ) (place : ℕ) → place + length bytes ≤ length mem → length (put mem place bytes) ≡ length mem
-length_put mem bytes at h =
-    omega (
-      arith,
-      length-append (take at mem ++ bytes) (drop (at + length bytes) mem),
-      length-append (take at mem) bytes,
-      length-take at mem,
-      length-drop
-          (at + length bytes) mem,
-    )
 
 wrote_alike : (r : Run) (h : ℕ) (s : Replay FlatState) (w : Wrote) → Agrees r h s → IsOneRun r → WriteHeld r w → WroteAlike r s w
 wrote_alike r h s wrote.Nothing a one w = (refl, (a.bytes, λ page n. refl))

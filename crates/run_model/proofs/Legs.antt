@@ -20,15 +20,15 @@ use Rattle.order_rules.specs.Holders.{held}
 use Rattle.replay_model.specs.Items.{Verdict, Move, CanGo, verdict_on, made, judged}
 use Rattle.replay_model.specs.State.{Replay, want, IsCrewState}
 use Rattle.run_model.specs.Run.{Run, hold_of, word_of, move_held, loaded_held, stored_in, moved_by, ahead_of, AheadAt, IsOneRun}
-use Rattle.run_model.specs.Agreement.{Agrees, Asks}
-use Rattle.run_model.specs.Legs.{Runs, IsPause, DifferFor, KeepsPages, MakesLeg}
+use Rattle.run_model.specs.Agreement.{Agrees, Asks, after_move}
+use Rattle.run_model.specs.Legs.{Runs, IsPause, DifferFor, KeepsPages, HasLed, MakesLeg}
 use Rattle.run_model.specs.declared.asked.Ahead.TheVariants.{Free}
 use Rattle.run_model.specs.declared.asked.Pause.{Pause}
 use Rattle.run_model.specs.declared.asked.Pause.TheVariants as pause
 use Rattle.run_model.proofs.Sight.{ahead_agrees}
 use Rattle.shared_types.proofs.Lists.{set_there}
 use Rattle.std.proofs.lemmas.Option.{get_or_from_slice_get}
-use Rattle.run_model.proofs.Moves.{WriteHeld, write_by, same_board, there_by, free_data, after_move, move_made, can_go}
+use Rattle.run_model.proofs.Moves.{WriteHeld, write_by, same_board, there_by, free_data, move_made, can_go}
 use Rattle.run_model.proofs.AfterMove.{agrees_after, differ_after, crew_after, stored_unit, stored_length}
 
 module _ {S V : Type 0} (flat : Flat S V) where
@@ -36,16 +36,6 @@ module _ {S V : Type 0} (flat : Flat S V) where
   pub runs_more : (h n : ℕ) (s m t : Replay S) → Runs flat h n s m → verdict_on flat m h Move ≡ CanGo → made flat m h Move ≡ Some t → Runs flat h (suc n) s t
   runs_more h zero s m t e v is = (subst (λ z. verdict_on flat z h Move ≡ CanGo) (sym e) v, (t, subst (λ z. made flat z h Move ≡ Some t) (sym e) is, refl))
   runs_more h (suc n) s m t (v, (k, is, rest)) w to = (v, (k, is, runs_more h n k m t rest w to))
-
--- so far the run led from the state to one that it agrees with
-pub record HasLed (unit : ℕ) (r : Run) (h : ℕ) (s : Replay FlatState) : Type 0 where
-  pub unit_is : r.frames.unit ≡ unit
-  pub at : Replay FlatState
-  pub moves : ℕ
-  pub runs : Runs (board unit) h moves s at
-  pub others : DifferFor unit h s at
-  pub crew : IsCrewState (board unit) at
-  pub agrees : Agrees r h at
 
 pub led_nowhere : (r : Run) (h : ℕ) (s : Replay FlatState) → IsCrewState (board r.frames.unit) s → Agrees r h s → HasLed r.frames.unit r h s
 led_nowhere r h s crew a =

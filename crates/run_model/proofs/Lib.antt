@@ -1,10 +1,10 @@
-pub mod Addresses
-pub mod Aheads
-pub mod DataPlaces
-pub mod Sight
-pub mod Moves
-pub mod AfterMove
-pub mod Legs
-pub mod Handover
-pub mod Start
+mod Addresses
+mod Aheads
+mod DataPlaces
+mod Sight
+mod Moves
+mod AfterMove
+mod Legs
+mod Handover
+mod Start
 pub mod Laws

@@ -1,6 +1,6 @@
 -- A run at its start agrees with the start of the flat machine.
 use Rattle.std.proofs.Common.{◌≡◌, ℕ, ◌*◌, ◌/◌, ◌<◌, inl, inr, false, List, [], map, length, replicate, Option, Some, None, slice_get, unwrap_or}
-use Rattle.std.proofs.Common.{true≢false, sym, ap, ◌∙◌, subst, arith, zero-add}
+use Rattle.std.proofs.Common.{true≢false, sym, ap, ◌∙◌, arith, zero-add}
 use Rattle.std.specs.Prelude.{is_some}
 use Rattle.std.specs.List.{range_with_len}
 use Rattle.std.proofs.lemmas.Bool.{cases_lt}
@@ -15,7 +15,7 @@ use Rattle.elf_image.specs.Image.{Image, IsWhole}
 use Rattle.flat_machine.specs.State.{FlatState}
 use Rattle.order_rules.specs.Holders.{held, row, nobody}
 use Rattle.replay_model.specs.State.{Replay}
-use Rattle.run_model.specs.Run.{Run, hold_of, run_at_start, IsOneRun}
+use Rattle.run_model.specs.Run.{hold_of, run_at_start, IsOneRun}
 use Rattle.run_model.proofs.Addresses.{whole_units}
 use Rattle.run_model.specs.Agreement.{Agrees, IsFirst}
 
@@ -81,7 +81,3 @@ start_agrees id harts image whole l s (flat, table) =
       bytes = λ page some. let none : is_some (hold_of (run_at_start id harts image) page) ≡ false =
           ap is_some (hold_of_nobody (length image.bytes / image.unit) page) in absurd (true≢false (sym some ∙ none));
     }
-
-pub begun_agrees : (id harts : ℕ) (image : Image) (r : Run) → IsWhole image → id < harts → r ≡ run_at_start id harts image → (s : Replay FlatState)
-    → IsFirst image harts s → Agrees r id s
-begun_agrees id harts image r whole l is s first = subst (λ z. Agrees z id s) (sym is) (start_agrees id harts image whole l s first)

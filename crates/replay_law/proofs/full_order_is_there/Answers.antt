@@ -1,4 +1,4 @@
-use Rattle.replay_law.proofs.Ending.{full_order_is_there}
+use Rattle.replay_law.proofs.Progress.{full_order_is_there}
 use Rattle.replay_law.proofs.full_order_is_there.Goals as goal
 
 pub returns : goal.returns

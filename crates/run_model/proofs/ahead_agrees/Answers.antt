@@ -1,4 +1,4 @@
-use Rattle.run_model.proofs.Sight as law
+use Rattle.run_model.proofs.Laws as law
 use Rattle.run_model.proofs.ahead_agrees.Goals as goal
 
 pub returns : goal.returns

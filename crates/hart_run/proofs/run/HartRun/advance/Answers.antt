@@ -1,17 +1,17 @@
-use Rattle.std.proofs.Common.{◌≡◌, ◌≢◌, ◌<◌, ◌≤◌, ◌∙◌, sym, ap, subst, arith}
+use Rattle.std.proofs.Common.{◌≡◌, ◌≢◌, ◌<◌, ◌≤◌, ◌∙◌, refl, sym, ap, subst, arith}
 use Rattle.run_model.specs.Run.{Run, IsOneRun, ahead_of}
-use Rattle.run_model.specs.Legs.{KeepsPages}
+use Rattle.run_model.specs.Legs.{KeepsPages, HasLed}
 use Rattle.run_model.specs.declared.asked.Ahead.TheVariants as ahead
 use Rattle.run_model.specs.declared.asked.Pause.TheVariants as pause
-use Rattle.run_model.proofs.Legs.{HasLed, led_nowhere, led_further, makes_leg, keeps_all, keeps_further}
+use Rattle.run_model.proofs.Laws.{starts_leg, leads_on, ends_leg, keeps_on_move}
 use Rattle.hart_run.proofs.Bursts.{led_gone, keeps_gone, count_gone}
 use Rattle.hart_run.proofs.run.HartRun.advance.Goals as goal
 
 pub loop-self-init : goal.loop-self-init
 loop-self-init c = record {
   within = c.requires;
-  kept = keeps_all c.args.self.now;
-  led = λ h s crew a. led_nowhere c.args.self.now h s crew a;
+  kept = record { held = refl; unit_is = refl; number = refl; board = (refl, refl); frames = λ page n. refl };
+  led = λ h s crew a. starts_leg c.args.self.now h s crew a;
 }
 
 pub loop-self-preserved : goal.loop-self-preserved
@@ -26,10 +26,10 @@ loop-self-preserved c =
     record {
       within = omega (arith, more, most, apart);
       kept = subst (KeepsPages c.args.self.now) (sym c.in-Free.ensures.made)
-          (keeps_further c.args.self.now c.burst.new.self (keeps_gone c.args.self.now c.loop-self.self c.burst.new.self c.burst.ensures.gone
+          (keeps_on_move c.args.self.now c.burst.new.self (keeps_gone c.args.self.now c.loop-self.self c.burst.new.self c.burst.ensures.gone
           c.loop-self.invariant.kept) free);
       led = λ h s crew a. subst (λ z. HasLed c.args.self.now.frames.unit z h s) (sym c.in-Free.ensures.made)
-          (led_further c.args.self.now.frames.unit c.burst.new.self h s
+          (leads_on c.args.self.now.frames.unit c.burst.new.self h s
           (led_gone c.args.self.now.frames.unit c.loop-self.self c.burst.new.self h s one c.burst.ensures.gone (c.loop-self.invariant.led h s crew a))
           again free);
     }
@@ -49,7 +49,7 @@ pub returns-then-self-until-clause-leg : goal.returns-then-self-until-clause-leg
 returns-then-self-until-clause-leg c h s crew a =
     let one : IsOneRun c.loop-self.self = subst IsOneRun c.self.view_is c.self.invariant.one in
     let count : c.self-in-loop-self.inside.count ≡ c.burst.new.self.count = ap (λ (z : Run). z.count) c.self-in-loop-self.view_is in
-    makes_leg c.args.self.now.frames.unit c.burst.new.self h c.args.until s pause.Due
+    ends_leg c.args.self.now.frames.unit c.burst.new.self h c.args.until s pause.Due
     (led_gone c.args.self.now.frames.unit c.loop-self.self c.burst.new.self h s one c.burst.ensures.gone (c.loop-self.invariant.led h s crew a))
     c.burst.ensures.within (sym count ∙ c.if-self-until.true)
 
@@ -66,7 +66,7 @@ returns-in-Wants-clause-leg c h s crew a =
     let most = c.burst.ensures.within in
     let apart : c.burst.new.self.count ≢ c.args.until = (λ e. c.if-self-until.false (count ∙ e)) in
     let below : c.step.new.self.count < c.args.until = omega (arith, same, most, apart) in
-    makes_leg c.args.self.now.frames.unit c.step.new.self h c.args.until s (pause.Wants c.in-Wants.page c.in-Wants.mode)
+    ends_leg c.args.self.now.frames.unit c.step.new.self h c.args.until s (pause.Wants c.in-Wants.page c.in-Wants.mode)
     (subst (λ z. HasLed c.args.self.now.frames.unit z h s) (sym c.in-Wants.ensures.made)
     (led_gone c.args.self.now.frames.unit c.loop-self.self c.burst.new.self h s one c.burst.ensures.gone (c.loop-self.invariant.led h s crew a)))
     (omega (arith, below))
@@ -85,7 +85,7 @@ returns-in-AtDevice-clause-leg c h s crew a =
     let most = c.burst.ensures.within in
     let apart : c.burst.new.self.count ≢ c.args.until = (λ e. c.if-self-until.false (count ∙ e)) in
     let below : c.step.new.self.count < c.args.until = omega (arith, same, most, apart) in
-    makes_leg c.args.self.now.frames.unit c.step.new.self h c.args.until s (pause.AtDevice c.in-AtDevice.access)
+    ends_leg c.args.self.now.frames.unit c.step.new.self h c.args.until s (pause.AtDevice c.in-AtDevice.access)
     (subst (λ z. HasLed c.args.self.now.frames.unit z h s) (sym c.in-AtDevice.ensures.made)
     (led_gone c.args.self.now.frames.unit c.loop-self.self c.burst.new.self h s one c.burst.ensures.gone (c.loop-self.invariant.led h s crew a)))
     (omega (arith, below))
@@ -96,5 +96,5 @@ returns-clause-leg c h s crew a =
     let count = ap (λ (z : Run). z.count) c.self.view_is in
     let test = c.loop-self-test.false in
     let most = c.loop-self.invariant.within in
-    makes_leg c.args.self.now.frames.unit c.loop-self.self h c.args.until s pause.Due (c.loop-self.invariant.led h s crew a) c.loop-self.invariant.within
+    ends_leg c.args.self.now.frames.unit c.loop-self.self h c.args.until s pause.Due (c.loop-self.invariant.led h s crew a) c.loop-self.invariant.within
     (omega (arith, count, test, most))
