@@ -28,7 +28,7 @@ use Rattle.recorder.specs.Turns.{Ends, EndsBy, FaultsOf}
 use Rattle.recorder.specs.Kept.{Comes}
 use Rattle.recorder.specs.declared.solo.Ended.TheVariants as ended
 use Rattle.recorder.proofs.Soundness.{few_entries}
-use Rattle.recorder.proofs.RoomAndEnds.{size_now}
+use Rattle.recorder.proofs.Ending.{size_now}
 use Rattle.recorder.proofs.Ordinals.{told_in_order, no_input, no_time}
 use Rattle.recorder.specs.LoneRun.{unit}
 
