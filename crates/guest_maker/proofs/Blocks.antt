@@ -35,6 +35,6 @@ one_block_more number n s old now after block so state is more =
     ∙ ap (λ z. z ++ bytes_of new) so
     ∙ append_assoc old (bytes_of (blocks number n)) (bytes_of new)
     ∙ ap (λ z. old ++ z) (
-      sym (flat_map-append word_bytes (blocks number n) new)
-      ∙ ap bytes_of (sym (next_blocks number n))
-      ∙ ap (λ m. bytes_of (blocks number m)) e)
+    sym (flat_map-append word_bytes (blocks number n) new)
+    ∙ ap bytes_of (sym (next_blocks number n))
+    ∙ ap (λ m. bytes_of (blocks number m)) e)

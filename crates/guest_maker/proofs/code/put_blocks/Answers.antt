@@ -13,7 +13,7 @@ loop-n-preserved c =
     let size = c.in_ok-put_all.ensures.size in
     let sized = i.1 in (
       one_block_more c.args.number c.loop-n.n c.loop-n.s c.args.out.now.items c.loop-n.out.items _ _ i.0 i.2
-        (ap bytes_of c.drawn_block-after.ensures.is) c.in_ok-put_all.ensures.bytes,
+          (ap bytes_of c.drawn_block-after.ensures.is) c.in_ok-put_all.ensures.bytes,
       omega (arith, size, sized),
       drawn_once_more c.args.number c.loop-n.n c.loop-n.s _ i.2 c.drawn_block-after.ensures.state,
     )
