@@ -5,7 +5,7 @@ use Rattle.outside.specs.declared.heads.Row.{Row}
 use Rattle.outside.specs.declared.heads.Head.{Head}
 use Rattle.outside.specs.Rows.{sizes, files, rows, IsClosed, IsRow, IsPlace}
 use Rattle.outside.specs.Files.{lookup, without, AreApart, total}
-use Rattle.outside.proofs.Told.{closed_append, heads_length, ended_rows}
+use Rattle.outside.proofs.HeadRows.{closed_append, heads_length, ended_rows}
 use Rattle.outside.proofs.Names.{absent_head, absent_rest, lookup_hit, lookup_miss, without_middle, without_absent, apart_added, total_without}
 use Rattle.std.specs.Str.{bytes_eq}
 use Rattle.std.specs.Bool.{Decides}

@@ -2,7 +2,7 @@ use Rattle.std.proofs.Common.{◌≡◌, ◌+◌, ◌-◌, ◌++◌, [], true, f
 use Rattle.outside.specs.declared.heads.Head.{Head}
 use Rattle.outside.specs.declared.heads.Row.{Row}
 use Rattle.outside.specs.Rows.{goes_on, rows}
-use Rattle.outside.proofs.Told.{piece_more, row_goes_on, row_ends, none_left}
+use Rattle.outside.proofs.HeadRows.{piece_more, row_goes_on, row_ends, none_left}
 use Rattle.outside.proofs.heads.next_row.Goals as goal
 
 pub returns-then-not-goes_on : goal.returns-then-not-goes_on

@@ -1,6 +1,6 @@
 use Rattle.std.proofs.Common.{◌≡◌, ◌-◌, ◌++◌, refl, sym, ap, ◌∙◌, arith}
 use Rattle.outside.specs.Rows.{rows, rows_after}
-use Rattle.outside.proofs.Told.{closed_append}
+use Rattle.outside.proofs.HeadRows.{closed_append}
 use Rattle.outside.proofs.heads.push_row.Goals as goal
 
 pub loop-name-init : goal.loop-name-init

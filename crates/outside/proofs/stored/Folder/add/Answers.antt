@@ -5,7 +5,7 @@ use Rattle.outside.specs.Rows.{files, sizes, rows}
 use Rattle.outside.specs.Stored.{contents}
 use Rattle.outside.specs.Files.{are_apart, lookup, total}
 use Rattle.outside.proofs.Names.{apart_from, apart_to, lookup_added, lookup_added_other, total_append}
-use Rattle.outside.proofs.Told.{heads_length}
+use Rattle.outside.proofs.HeadRows.{heads_length}
 use Rattle.outside.proofs.Texts.{total_files, files_added, sizes_added, apart_row, room_for_row, room_for_heads}
 use Rattle.outside.proofs.stored.Folder.add.Goals as goal
 
