@@ -1,6 +1,6 @@
 pub mod Layers
 pub mod Bits
 pub mod Headers
-pub mod Kept
+pub mod NoBrokenRule
 pub mod Contents
 pub mod Overlay

@@ -18,7 +18,7 @@ memory_size pages = page_bytes * pages
 -- an image of a board: its bytes fill the memory, and its entry is a multiple of 4 in memory
 pub record IsWhole (image : Image) : Type 0 where
   pub least_pages : 1 ≤ image.pages
-  pub most_pages : image.pages ≤ most_pages
+  pub pages_within : image.pages ≤ most_pages
   pub unit : image.unit ≡ page_bytes
   pub size : length image.bytes ≡ memory_size image.pages
   pub aligned : image.entry % 4 ≡ 0

@@ -25,7 +25,12 @@ impl Model for Image {
 
     ghost view = { λ i. record { entry = i.entry; pages = i.pages; unit = i.unit; bytes = i.bytes.items } };
 
-    ghost invariant = { λ i. IsWhole (record { entry = i.entry; pages = i.pages; unit = i.unit; bytes = i.bytes.items }) };
+    ghost invariant = { λ i. IsWhole (record {
+      entry = i.entry;
+      pages = i.pages;
+      unit = i.unit;
+      bytes = i.bytes.items;
+    }) };
 }
 
 impl Image {

@@ -1,4 +1,4 @@
-pub mod Acting
-pub mod Kept
+pub mod StateAfterMove
+pub mod DeviceHarts
 pub mod Rows
-pub mod Starting
+pub mod FirstState

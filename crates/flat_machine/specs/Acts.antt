@@ -9,7 +9,7 @@ use Rattle.rv_hart.specs.declared.effect.Effect.{Effect}
 use Rattle.rv_hart.specs.declared.effect.Wrote.{Wrote}
 use Rattle.device_board.specs.State.{Devices, lines, with_time}
 use Rattle.device_board.specs.Accesses.{touched, HasRoom}
-use Rattle.flat_machine.specs.State.{FlatState, Machine}
+use Rattle.flat_machine.specs.State.{FlatState, FlatWithRoom}
 use Rattle.flat_machine.specs.Moves.{next_move, loaded_for, access_of, stored_by, lost_by}
 use Rattle.flat_machine.specs.declared.act.Act.{Act}
 use Rattle.flat_machine.specs.declared.act.Act.TheVariants.{Run, Touch, Poll, Lose}
@@ -81,11 +81,11 @@ CountsFit (Poll h time) s = Unit {0}
 CountsFit (Lose h) s = Unit {0}
 
 -- there is room for the console byte of the hart's next move, where it sends one
-abbrev pub NextHasRoom : Machine → Hart → Type 0
+abbrev pub NextHasRoom : FlatWithRoom → Hart → Type 0
 NextHasRoom m x = IfSome (access_of (need_of (next_move x m.state.memory))) (HasRoom (record { devices = m.state.devices; spare = m.spare }))
 
 -- a Touch that sends has room
-abbrev pub SendsWithRoom : Act → Machine → Type 0
+abbrev pub SendsWithRoom : Act → FlatWithRoom → Type 0
 SendsWithRoom (Run h) m = Unit {0}
 SendsWithRoom (Touch h input) m = IfSome (slice_get m.state.harts h) (NextHasRoom m)
 SendsWithRoom (Poll h time) m = Unit {0}

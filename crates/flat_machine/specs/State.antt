@@ -24,12 +24,12 @@ flat_at_start image harts =
     }
 
 -- a machine of the program: its state, and the number of further console bytes for which there is room
-pub record Machine : Type 0 where
+pub record FlatWithRoom : Type 0 where
   pub state : FlatState
   pub spare : ℕ
 
 -- console bytes that were sent, and further ones for which there is room
-abbrev pub console_room : Machine → ℕ
+abbrev pub console_room : FlatWithRoom → ℕ
 console_room m = length m.state.devices.sent + m.spare
 
 -- a hart of a board with so many harts and pages

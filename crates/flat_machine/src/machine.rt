@@ -30,11 +30,14 @@ pub struct Flat {
 }
 
 impl Model for Flat {
-    ghost use Rattle.flat_machine.specs.State.{Machine, FitsTogether};
+    ghost use Rattle.flat_machine.specs.State.{FlatWithRoom, FitsTogether};
 
-    ghost Value = { Machine };
+    ghost Value = { FlatWithRoom };
 
-    ghost view = { λ m. record { state = record { harts = m.harts.items; counts = m.counts.items; memory = m.memory; devices = m.devices.devices }; spare = m.devices.spare } };
+    ghost view = { λ m. record {
+      state = record { harts = m.harts.items; counts = m.counts.items; memory = m.memory; devices = m.devices.devices };
+      spare = m.devices.spare;
+    } };
 
     ghost invariant = { λ m. FitsTogether m.harts.items m.counts.items m.memory m.pages m.devices.devices.harts };
 }
@@ -68,7 +71,7 @@ impl Flat {
         })
     }
 
-    #[tactic(auto, using(crate::proofs::Acting::acting))]
+    #[tactic(auto, using(crate::proofs::StateAfterMove::acting))]
     fn run(&mut self, h: u8) -> bool
         requires { slice_index self.old.state.counts h + 1 < 2 ^ 64 }
         ensures answer { result ≡ is_some (next (Act.Run h) self.old.state) }
@@ -92,7 +95,7 @@ impl Flat {
         }
     }
 
-    #[tactic(auto, using(crate::proofs::Acting::acting))]
+    #[tactic(auto, using(crate::proofs::StateAfterMove::acting))]
     fn lose(&mut self, h: u8) -> bool
         ensures answer { result ≡ is_some (next (Act.Lose h) self.old.state) }
         ensures state { self.new.state ≡ unwrap_or (next (Act.Lose h) self.old.state) self.old.state }
@@ -109,7 +112,7 @@ impl Flat {
         true
     }
 
-    #[tactic(auto, using(crate::proofs::Acting::acting))]
+    #[tactic(auto, using(crate::proofs::StateAfterMove::acting))]
     fn poll(&mut self, h: u8, time: u64) -> bool
         ensures answer { result ≡ is_some (next (Act.Poll h time) self.old.state) }
         ensures state { self.new.state ≡ unwrap_or (next (Act.Poll h time) self.old.state) self.old.state }
@@ -128,7 +131,7 @@ impl Flat {
         true
     }
 
-    #[tactic(auto, using(crate::proofs::Acting::acting))]
+    #[tactic(auto, using(crate::proofs::StateAfterMove::acting))]
     fn touch(&mut self, h: u8, input: Input) -> bool
         requires room { SendsWithRoom (Act.Touch h input) self.old }
         requires count { slice_index self.old.state.counts h + 1 < 2 ^ 64 }

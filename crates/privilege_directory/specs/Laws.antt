@@ -46,7 +46,7 @@ Gives d h (Gain count page seq mode waits) = (slice_index d.numbers page ≡ seq
 Gives d h (Yield count page seq left) = slice_index d.numbers page ≡ seq
 Gives d h entry = Unit {0}
 
--- the call for an entry may be made
+-- no hold stands against an entry: a Gain is allowed, and a Yield leaves less than is held
 abbrev pub MayCall : Directory → ℕ → Entry → Type 0
 MayCall d h (Gain count page seq mode waits) = IsTrue (may_gain d h page mode)
 MayCall d h (Yield count page seq left) = strength left < strength (held d.holders page h)
@@ -70,7 +70,7 @@ abbrev pub GivesEntries : Type 0
 GivesEntries =
     (log : Log) (order : List (ℕ × ℕ)) (h : ℕ) (e : Entry) → Keeps log o5 → Keeps log o7 → IsNext log order h e → Gives (directory_along log order) h e
 
--- in a log that keeps O5 and O6, its call may be made
+-- in a log that keeps O5 and O6, no hold stands against it
 abbrev pub AllowsEntries : Type 0
 AllowsEntries =
     (log : Log) (order : List (ℕ × ℕ)) (h : ℕ) (e : Entry) → Keeps log o5 → Keeps log o6 → IsNext log order h e → MayCall (directory_along log order) h e

@@ -30,7 +30,7 @@ use Rattle.replay_model.specs.Board.{board}
 use Rattle.replay_model.specs.State.{Replay, start}
 use Rattle.replay_model.specs.Items.{Item, Ended, Move, Makes, Verdict, HasEnded, Holds, CanGo, HasDiverged, item_at, judged, broken_rule, verdict_on, made}
 use Rattle.replay_model.specs.Items.{effect, past, goes, next_item, verdict, step}
-use Rattle.replay_model.proofs.Driving.{went}
+use Rattle.replay_model.proofs.ActsOfOrders.{went}
 use Rattle.crew_recording.proofs.Tests.{met}
 use Rattle.crew_recording.specs.Recording.{IsSteady}
 use Rattle.crew_recording.specs.Laws.{IsBoard}

@@ -24,7 +24,7 @@ use Rattle.flat_machine.specs.Moves.{next_move, access_of, stored_by}
 use Rattle.flat_machine.specs.Acts.{next, ran, touch_made, poll_made, accessed, polled, lost, counted_up, with_lines_of}
 use Rattle.flat_machine.specs.declared.act.Act.{Act}
 use Rattle.flat_machine.specs.declared.act.Act.TheVariants as act
-use Rattle.flat_machine.proofs.Acting.{moved_fits, set_fits}
+use Rattle.flat_machine.proofs.StateAfterMove.{moved_fits, set_fits}
 use Rattle.replay_model.specs.Board.{board, hart_access}
 use Rattle.order_rules.specs.Holders.{held}
 use Rattle.replay_model.specs.State.{Replay, want, IsCrewState}

@@ -15,7 +15,7 @@ use Rattle.log_entry.specs.Parts.{unit_of, units_of}
 use Rattle.elf_image.specs.Image.{Image}
 use Rattle.flat_machine.specs.State.{FlatState, FitsTogether}
 use Rattle.flat_machine.specs.declared.results.Step.{Step}
-use Rattle.flat_machine.proofs.Starting.{start_fits}
+use Rattle.flat_machine.proofs.FirstState.{start_fits}
 use Rattle.orders_law.specs.Orders.{is_of, Leads, Lasts, Commutes}
 use Rattle.orders_law.proofs.Shares.{own_apart, shares_agree}
 use Rattle.orders_law.proofs.Confluence.{orders_agree}

@@ -14,7 +14,7 @@ use Rattle.replay_model.specs.State.{Replay}
 use Rattle.replay_model.specs.Items.{Item, Ended, Move, Makes, Verdict, HasEnded, Holds, CanGo, HasDiverged, verdict_on, made, acted, past, holds}
 use Rattle.replay_model.specs.Items.{ends_reservation, told_of, goes, next_item, step}
 use Rattle.shared_types.proofs.Lists.{mapped}
-use Rattle.replay_model.proofs.Driving.{went}
+use Rattle.replay_model.proofs.ActsOfOrders.{went}
 
 -- an item that a hart can make
 abbrev pub IsMade : Item → Type 0

@@ -11,7 +11,7 @@ use Rattle.replay_model.specs.Worked.{Scripted, ended, first, race_journal, raci
 use Rattle.replay_model.specs.Worked.{losing_log, keeping_log, AreReplayed}
 use Rattle.rv_words.specs.declared.shared.Input.TheVariants.{Nothing, Empty}
 use Rattle.rv_words.specs.declared.shared.Cause.TheVariants.{Stop, Limit, Full}
-use Rattle.replay_model.proofs.Replayed.{leads, comes_to}
+use Rattle.replay_model.proofs.StepByStep.{leads, comes_to}
 
 abbrev race_end : Replay Scripted
 race_end = record {

@@ -23,7 +23,7 @@ use Rattle.replay_model.specs.State.{Replay, start}
 use Rattle.replay_model.specs.Items.{IsFullOrder, Obeys, Item}
 use Rattle.replay_model.specs.Outcome.{Done, IsOutcome, cause_agrees, same}
 use Rattle.replay_model.specs.Acts.{acts_of}
-use Rattle.replay_model.proofs.Driving.{orders_drive}
+use Rattle.replay_model.proofs.ActsOfOrders.{orders_drive}
 use Rattle.replay_law.proofs.Orders.{all_orders_agree}
 use Rattle.solo_recording.specs.Lone.{IsLone}
 use Rattle.solo_recording.specs.Recording.{SoloRecording, log_of_recording}

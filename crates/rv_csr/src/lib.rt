@@ -35,11 +35,39 @@ impl Model for Csrs {
 
     ghost Value = { state.Csrs };
 
-    ghost view = { λ s. record { hart = s.hart; status_mie = s.status_mie; status_mpie = s.status_mpie; mie = s.mie; mtvec = s.mtvec; mscratch = s.mscratch; mepc = s.mepc; mcause = s.mcause; mtval = s.mtval; software_line = s.software_line; timer_line = s.timer_line; mcycle = s.mcycle; minstret = s.minstret } };
+    ghost view = { λ s. record {
+      hart = s.hart;
+      status_mie = s.status_mie;
+      status_mpie = s.status_mpie;
+      mie = s.mie;
+      mtvec = s.mtvec;
+      mscratch = s.mscratch;
+      mepc = s.mepc;
+      mcause = s.mcause;
+      mtval = s.mtval;
+      software_line = s.software_line;
+      timer_line = s.timer_line;
+      mcycle = s.mcycle;
+      minstret = s.minstret;
+    } };
 
     ghost invariant = { λ s. s.mepc % 4 ≡ 0 };
 
-    ghost inverse = { λ s. record { hart = s.hart; status_mie = s.status_mie; status_mpie = s.status_mpie; mie = s.mie; mtvec = s.mtvec; mscratch = s.mscratch; mepc = s.mepc; mcause = s.mcause; mtval = s.mtval; software_line = s.software_line; timer_line = s.timer_line; mcycle = s.mcycle; minstret = s.minstret } };
+    ghost inverse = { λ s. record {
+      hart = s.hart;
+      status_mie = s.status_mie;
+      status_mpie = s.status_mpie;
+      mie = s.mie;
+      mtvec = s.mtvec;
+      mscratch = s.mscratch;
+      mepc = s.mepc;
+      mcause = s.mcause;
+      mtval = s.mtval;
+      software_line = s.software_line;
+      timer_line = s.timer_line;
+      mcycle = s.mcycle;
+      minstret = s.minstret;
+    } };
 }
 
 impl Csrs {

@@ -1,4 +1,4 @@
--- Moves that read and change no control register but the counters.
+-- Moves that read no control register and change none but the counters.
 use Rattle.std.proofs.Common.{◌≡◌, ℕ, Bool, true, false, cond, Some, None, refl, ap, ◌∙◌}
 use Rattle.std.specs.Prelude.{is_some}
 use Rattle.rv_words.specs.Addresses.{in_memory}

@@ -1,4 +1,4 @@
--- Moves that read and change no control register but the counters, so that these can be counted together.
+-- Moves that read no control register and change none but the counters, so that these can be counted together.
 use Rattle.std.specs.Prelude.{ℕ, Bool, true, false, if◌then◌else◌, Option, Some, None}
 use Rattle.rv_words.specs.Addresses.{in_memory}
 use Rattle.rv_decode.specs.declared.Instr.{Instr}

@@ -38,11 +38,25 @@ impl Model for Hart {
 
     ghost Value = { state.Hart };
 
-    ghost view = { λ h. record { pc = h.pc; regs = drop 1 h.regs; csrs = h.csrs; reserved = h.reserved; harts = h.harts; pages = h.pages } };
+    ghost view = { λ h. record {
+      pc = h.pc;
+      regs = drop 1 h.regs;
+      csrs = h.csrs;
+      reserved = h.reserved;
+      harts = h.harts;
+      pages = h.pages;
+    } };
 
     ghost invariant = { λ h. (h.pc % 4 ≡ 0) × (h.regs ≡ 0 ∷ drop 1 h.regs) };
 
-    ghost inverse = { λ h. record { pc = h.pc; regs = 0 ∷ h.regs; csrs = h.csrs; reserved = h.reserved; harts = h.harts; pages = h.pages } };
+    ghost inverse = { λ h. record {
+      pc = h.pc;
+      regs = 0 ∷ h.regs;
+      csrs = h.csrs;
+      reserved = h.reserved;
+      harts = h.harts;
+      pages = h.pages;
+    } };
 
     ghost use Rattle.std.proofs.Common.{ap, sym};
 

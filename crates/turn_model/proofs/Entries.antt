@@ -15,7 +15,7 @@ use Rattle.order_rules.proofs.Takings.{taken_is, ordinal_by}
 use Rattle.replay_model.specs.State.{Replay}
 use Rattle.replay_model.specs.Items.{Item, Move, Makes, Verdict, HasEnded, Holds, CanGo, HasDiverged, goes, verdict_on, made, acted, effect, past, holds}
 use Rattle.replay_model.specs.Items.{ends_reservation}
-use Rattle.replay_model.proofs.Driving.{went}
+use Rattle.replay_model.proofs.ActsOfOrders.{went}
 use Rattle.crew_recording.proofs.Items.{entry_places, same_places}
 use Rattle.crew_recording.proofs.OrderedRecordings.{did_entry, acts_on}
 use Rattle.turn_model.specs.Recordable.{Recordable}

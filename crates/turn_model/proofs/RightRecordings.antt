@@ -6,7 +6,7 @@ use Rattle.elf_image.specs.Image.{Image}
 use Rattle.flat_machine.specs.State.{FlatState, flat_at_start}
 use Rattle.replay_model.specs.Board.{board}
 use Rattle.replay_model.specs.Journal.{order_of}
-use Rattle.replay_model.proofs.Driving.{orders_drive}
+use Rattle.replay_model.proofs.ActsOfOrders.{orders_drive}
 use Rattle.crew_recording.proofs.Steady.{no_place}
 use Rattle.replay_model.specs.State.{start}
 use Rattle.replay_model.specs.Outcome.{cause_agrees}

@@ -46,7 +46,7 @@ impl Bench {
         self.flat.act(Act::Run(h))
     }
 
-    #[tactic(auto, using(crate::proofs::Acting::touch_has_room))]
+    #[tactic(auto, using(crate::proofs::StateAfterMove::touch_has_room))]
     fn touch(&mut self, rt: &impl Abort, h: u8, input: Input) -> bool {
         assert!(rt; self.count(h) < 1000);
         assert!(rt; self.flat.devices.sent().len() < 4);

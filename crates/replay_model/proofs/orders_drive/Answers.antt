@@ -1,5 +1,5 @@
-use Rattle.replay_model.proofs.Driving.{orders_drive}
-use Rattle.replay_model.proofs.Telling.{orders_tell}
+use Rattle.replay_model.proofs.ActsOfOrders.{orders_drive}
+use Rattle.replay_model.proofs.StoriesOfOrders.{orders_tell}
 use Rattle.replay_model.proofs.orders_drive.Goals as goal
 
 pub returns-clause-acts : goal.returns-clause-acts

@@ -1,7 +1,7 @@
 use Rattle.std.proofs.Common.{◌≡◌, ◌+◌, ◌%◌, ◌≤◌, refl, arith}
 use Rattle.std.proofs.lemmas.Grind.{common_steps}
 use Rattle.elf_image.specs.Image.{memory_size}
-use Rattle.elf_image.proofs.Kept.{entry_kept, entry_inside}
+use Rattle.elf_image.proofs.NoBrokenRule.{entry_kept, entry_inside}
 use Rattle.elf_image.proofs.loading.elf_image.Goals as goal
 
 pub of-requires : goal.of-requires
@@ -11,7 +11,7 @@ of-requires c =
     entry_inside c.args.pages c.word_at.result (rw c.word_at.ensures kept) in
     record {
       least_pages = c.requires.least;
-      most_pages = c.requires.most;
+      pages_within = c.requires.most;
       unit = refl;
       size = grind (arith, common_steps);
       aligned = inside.0;

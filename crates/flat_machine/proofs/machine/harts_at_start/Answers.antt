@@ -1,6 +1,6 @@
 use Rattle.std.proofs.Common.{rules, ◌≡◌, [], ◌∷◌, ◌++◌}
 use Rattle.rv_hart.specs.Moves.{hart_at_start}
-use Rattle.flat_machine.proofs.Starting.{one_more}
+use Rattle.flat_machine.proofs.FirstState.{one_more}
 use Rattle.flat_machine.proofs.machine.harts_at_start.Goals as goal
 
 pub loop-id-preserved : goal.loop-id-preserved

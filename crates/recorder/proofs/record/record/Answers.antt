@@ -1,4 +1,4 @@
-use Rattle.recorder.proofs.Coming.{finished}
+use Rattle.recorder.proofs.RunsAsRecordings.{finished}
 use Rattle.recorder.proofs.record.record.Goals as goal
 
 pub returns-in-By : goal.returns-in-By

@@ -1,5 +1,5 @@
 use Rattle.std.proofs.Common.{rules, ◌≡◌}
-use Rattle.flat_machine.proofs.Starting.{start_fits}
+use Rattle.flat_machine.proofs.FirstState.{start_fits}
 use Rattle.flat_machine.proofs.machine.Flat.start.Goals as goal
 
 pub invariant_of-result : goal.invariant_of-result

@@ -6,11 +6,11 @@ use Rattle.rv_csr.specs.Traps.{with_lines}
 use Rattle.rv_hart.specs.State.{Hart}
 use Rattle.rv_hart.specs.Effects.{effect_of}
 use Rattle.rv_hart.specs.Moves.{after}
-use Rattle.flat_machine.specs.State.{Machine, OnBoard, FitsTogether}
+use Rattle.flat_machine.specs.State.{FlatWithRoom, OnBoard, FitsTogether}
 use Rattle.flat_machine.specs.Acts.{next, with_lines_of}
 use Rattle.flat_machine.specs.declared.act.Act.TheVariants.{Touch}
-use Rattle.flat_machine.proofs.Acting.{touched_fits, touch_state, touch_state_kept, touch_no_access, access_has_room}
-use Rattle.flat_machine.proofs.Kept.{touch_keeps_harts}
+use Rattle.flat_machine.proofs.StateAfterMove.{touched_fits, touch_state, touch_state_kept, touch_no_access, access_has_room}
+use Rattle.flat_machine.proofs.DeviceHarts.{touch_keeps_harts}
 use Rattle.flat_machine.proofs.machine.Flat.touch.Goals as goal
 use Rattle.flat_machine.proofs.machine.Flat.touch.Goals.{After-index_mut-in-Some-replay_touch, In-None-replay_touch, In-None}
 
@@ -64,7 +64,7 @@ made c =
     let there : slice_get c.self.inside.harts.items c.args.h ≡ Some c.index.result.now =
     slice_get_read c.self.inside.harts.items (length c.self.inside.harts.items) c.args.h c.index.result.now refl inside c.index.ensures in
     let running : is_some c.self.inside.devices.devices.stop ≡ false = search rules in
-    let same : _ ≡ c.args.self.now.state = ap (λ (m : Machine). m.state) c.self.view_is in
+    let same : _ ≡ c.args.self.now.state = ap (λ (m : FlatWithRoom). m.state) c.self.view_is in
     let hart : c.set_lines.new.self ≡ with_lines_of c.replay_touch.new.self.devices c.args.h
     (after c.index.result.now (effect_of c.index.result.now c.in-Some.word) c.in-Some-replay_touch.loaded) =
     c.set_lines.ensures ∙ ap (λ l. record c.finish.new.self { csrs = with_lines l c.finish.new.self.csrs }) c.lines.ensures.lines
@@ -97,7 +97,7 @@ kept c =
     let there : slice_get c.self.inside.harts.items c.args.h ≡ Some c.index.result.now =
     slice_get_read c.self.inside.harts.items (length c.self.inside.harts.items) c.args.h c.index.result.now refl inside c.index.ensures in
     let running : is_some c.self.inside.devices.devices.stop ≡ false = search rules in
-    let same : _ ≡ c.args.self.now.state = ap (λ (m : Machine). m.state) c.self.view_is in
+    let same : _ ≡ c.args.self.now.state = ap (λ (m : FlatWithRoom). m.state) c.self.view_is in
     touch_state_kept _ c.args.self.now.state c.args.h c.in-Some.word c.args.input c.index.result.now c.in-Some.access c.replay_touch.new.self.devices same
     there running c.in-Some.ensures c.in-None-replay_touch.ensures.devices
 
@@ -118,7 +118,7 @@ none c =
     let there : slice_get c.self.inside.harts.items c.args.h ≡ Some c.index.result.now =
     slice_get_read c.self.inside.harts.items (length c.self.inside.harts.items) c.args.h c.index.result.now refl inside c.index.ensures in
     let running : is_some c.self.inside.devices.devices.stop ≡ false = search rules in
-    let same : _ ≡ c.args.self.now.state = ap (λ (m : Machine). m.state) c.self.view_is in
+    let same : _ ≡ c.args.self.now.state = ap (λ (m : FlatWithRoom). m.state) c.self.view_is in
     subst (λ z. next (Touch c.args.h c.args.input) z ≡ None) same
     (touch_no_access _ c.args.h c.args.input c.index.result.now there running c.in-None.ensures)
 

@@ -1,5 +1,5 @@
 use Rattle.std.proofs.Common.{ap, arith}
-use Rattle.recorder.proofs.Moving.{one_step, moves_keep, paused}
+use Rattle.recorder.proofs.Moves.{one_step, moves_keep, paused}
 use Rattle.recorder.proofs.lone_run.LoneRun.advance.Goals as goal
 
 pub loop-self-preserved : goal.loop-self-preserved

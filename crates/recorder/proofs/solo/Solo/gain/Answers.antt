@@ -1,5 +1,5 @@
 use Rattle.std.proofs.Common.{sym, ◌∙◌, ap, nat_le, ◌+◌}
-use Rattle.recorder.proofs.Ending.{gain_full, gain_to}
+use Rattle.recorder.proofs.RoomAndEnds.{gain_full, gain_to}
 use Rattle.recorder.proofs.solo.Solo.gain.Goals as goal
 
 pub returns-then-not-has_room : goal.returns-then-not-has_room

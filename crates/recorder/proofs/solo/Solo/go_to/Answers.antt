@@ -1,7 +1,7 @@
 use Rattle.std.proofs.Common.{refl, ap, subst, ◌∙◌, ◌<◌, arith}
 use Rattle.recorder.specs.LoneRun.{deficit}
-use Rattle.recorder.proofs.Going.{went_on, went_nowhere}
-use Rattle.recorder.proofs.Turning.{nobody, ends_on, leg_going}
+use Rattle.recorder.proofs.Progress.{went_on, went_nowhere}
+use Rattle.recorder.proofs.Turns.{nobody, ends_on, leg_going}
 use Rattle.recorder.proofs.solo.Solo.go_to.Goals as goal
 
 pub gains-init : goal.gains-init

@@ -1,7 +1,7 @@
 use Rattle.std.proofs.Common.{◌≡◌, subst, sym}
 use Rattle.recorder.specs.LoneRun.{Leg}
 use Rattle.recorder.specs.Turns.{LegTo}
-use Rattle.recorder.proofs.Ending.{leg_to}
+use Rattle.recorder.proofs.RoomAndEnds.{leg_to}
 use Rattle.recorder.proofs.solo.Solo.leg.Goals as goal
 
 pub returns : goal.returns

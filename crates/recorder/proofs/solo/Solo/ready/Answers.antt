@@ -1,5 +1,5 @@
 use Rattle.std.proofs.Common.{refl, sym, ap, ◌∙◌, is_some, arith}
-use Rattle.recorder.proofs.Going.{went_nowhere}
+use Rattle.recorder.proofs.Progress.{went_nowhere}
 use Rattle.shared_types.proofs.Lists.{is_nothing}
 use Rattle.recorder.proofs.solo.Solo.ready.Goals as goal
 

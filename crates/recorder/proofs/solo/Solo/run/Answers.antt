@@ -1,6 +1,6 @@
 use Rattle.std.proofs.Common.{refl, ◌∙◌}
-use Rattle.recorder.proofs.Going.{went_on, went_nowhere}
-use Rattle.recorder.proofs.Turning.{ends_on}
+use Rattle.recorder.proofs.Progress.{went_on, went_nowhere}
+use Rattle.recorder.proofs.Turns.{ends_on}
 use Rattle.recorder.proofs.solo.Solo.run.Goals as goal
 
 pub turns-init : goal.turns-init

@@ -1,5 +1,5 @@
 use Rattle.std.proofs.Common.{sym, ◌∙◌, ap, nat_le, ◌+◌}
-use Rattle.recorder.proofs.Ending.{touch_full, touch_made, touch_ends}
+use Rattle.recorder.proofs.RoomAndEnds.{touch_full, touch_made, touch_ends}
 use Rattle.recorder.proofs.solo.Solo.touch.Goals as goal
 
 pub returns-then-not-has_room : goal.returns-then-not-has_room

@@ -1,7 +1,7 @@
 use Rattle.std.proofs.Common.{Ok, ap, subst, arith}
 use Rattle.recorder.specs.Turns.{GoesTo}
-use Rattle.recorder.proofs.Going.{went_on}
-use Rattle.recorder.proofs.Turning.{nobody, ends_on, turns_on}
+use Rattle.recorder.proofs.Progress.{went_on}
+use Rattle.recorder.proofs.Turns.{nobody, ends_on, turns_on}
 use Rattle.recorder.proofs.solo.Solo.turn.Goals as goal
 
 pub touch-requires-clause-going : goal.touch-requires-clause-going

@@ -1,5 +1,5 @@
 use Rattle.std.proofs.Common.{rules}
-use Rattle.flat_machine.proofs.Acting.{touch_has_room}
+use Rattle.flat_machine.proofs.StateAfterMove.{touch_has_room}
 use Rattle.flat_machine.proofs.machine.tests.Bench.touch.Goals as goal
 
 pub act-requires-clause-room : goal.act-requires-clause-room

@@ -16,7 +16,7 @@ use Rattle.rv_hart.specs.Effects.{effect_of}
 use Rattle.device_board.specs.Accesses.{touched, MadeAgain, HasRoom, sends}
 use Rattle.device_board.specs.State.{Devices}
 use Rattle.std.specs.Option.{option_map}
-use Rattle.flat_machine.specs.State.{FlatState, Machine, OnBoard, FitsTogether}
+use Rattle.flat_machine.specs.State.{FlatState, FlatWithRoom, OnBoard, FitsTogether}
 use Rattle.flat_machine.specs.Moves.{next_move, loaded_for, access_of, stored_by, lost_by, writes_in}
 use Rattle.flat_machine.specs.HartMoves.{HartMoved, FindsAccess}
 use Rattle.flat_machine.specs.Acts.{next, moved, moved_by, lost, accessed, with_lines_of, NextHasRoom, SendsWithRoom}
@@ -154,7 +154,7 @@ touch_state_kept s t h word v x access d e g stop f r =
     )
 
 -- the access that was found has room, where it sends a byte
-pub access_has_room : (m n : Machine) (h word : ℕ) (v : Input) (x : Hart) (access : Access) → m ≡ n → slice_get m.state.harts h ≡ Some x
+pub access_has_room : (m n : FlatWithRoom) (h word : ℕ) (v : Input) (x : Hart) (access : Access) → m ≡ n → slice_get m.state.harts h ≡ Some x
     → FindsAccess x m.state.memory (Some (word, access))
     → SendsWithRoom (Touch h v) n → HasRoom (record { devices = m.state.devices; spare = m.spare }) access
 access_has_room m n h word v x access e g f r =
@@ -162,20 +162,20 @@ access_has_room m n h word v x access e g f r =
     let next : NextHasRoom m x = subst (λ o. IfSome o (NextHasRoom m)) g of_hart in
     subst (λ o. IfSome o (HasRoom (record { devices = m.state.devices; spare = m.spare }))) (ap (λ z. access_of (need_of z)) f.0 ∙ f.1) next
 
-word_has_room : (m : Machine) (access : Access) (o : Option DeviceWord) → 0 < m.spare → IfSome o (λ word. IsTrue (sends word access.store) → 0 < m.spare)
+word_has_room : (m : FlatWithRoom) (access : Access) (o : Option DeviceWord) → 0 < m.spare → IfSome o (λ word. IsTrue (sends word access.store) → 0 < m.spare)
 word_has_room m access None p = tt
 word_has_room m access (Some word) p = λ _. p
 
-next_has_room : (m : Machine) (x : Hart) (o : Option Access) → 0 < m.spare → IfSome o (HasRoom (record { devices = m.state.devices; spare = m.spare }))
+next_has_room : (m : FlatWithRoom) (x : Hart) (o : Option Access) → 0 < m.spare → IfSome o (HasRoom (record { devices = m.state.devices; spare = m.spare }))
 next_has_room m x None p = tt
 next_has_room m x (Some access) p = word_has_room m access (device_word m.state.devices.harts access.at) p
 
-hart_has_room : (m : Machine) (o : Option Hart) → 0 < m.spare → IfSome o (NextHasRoom m)
+hart_has_room : (m : FlatWithRoom) (o : Option Hart) → 0 < m.spare → IfSome o (NextHasRoom m)
 hart_has_room m None p = tt
 hart_has_room m (Some x) p = next_has_room m x (access_of (need_of (next_move x m.state.memory))) p
 
 -- where there is room at all, every Touch has it
-pub touch_has_room : (m : Machine) (h : ℕ) (v : Input) → 0 < m.spare → SendsWithRoom (Touch h v) m
+pub touch_has_room : (m : FlatWithRoom) (h : ℕ) (v : Input) → 0 < m.spare → SendsWithRoom (Touch h v) m
 touch_has_room m h v p = hart_has_room m (slice_get m.state.harts h) p
 
 pub touched_fits : (xs : List Hart) (counts memory : List ℕ) (p n n' h c : ℕ) (y : Hart) → FitsTogether xs counts memory p n → n' ≡ n → OnBoard n p y

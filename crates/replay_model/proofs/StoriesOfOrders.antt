@@ -20,7 +20,7 @@ use Rattle.replay_model.specs.Items.{Item, Ended, Move, Makes, Verdict, HasEnded
 use Rattle.replay_model.specs.Items.{goes, ends_reservation, next_item, story}
 use Rattle.replay_model.specs.Acts.{acts_of_item, acts_of}
 use Rattle.replay_model.specs.Laws.{OrdersTell}
-use Rattle.replay_model.proofs.Driving.{mapped, went, one_item, board_runs}
+use Rattle.replay_model.proofs.ActsOfOrders.{mapped, went, one_item, board_runs}
 
 -- what a move of a hart adds to a story
 abbrev part : ℕ → ℕ → Option (List Step) → List Step

@@ -9,7 +9,7 @@ use Rattle.recorder.specs.Turns.{Went, Ends, EndsBy, FaultsOf, IsGoing, LegTo, T
 use Rattle.recorder.specs.declared.lone_run.Stepped.{Stepped}
 use Rattle.recorder.specs.declared.solo.Ended.{Ended}
 use Rattle.recorder.specs.declared.solo.Ended.TheVariants as ended
-use Rattle.recorder.proofs.Going.{went_on}
+use Rattle.recorder.proofs.Progress.{went_on}
 
 -- some console and clock, where nothing depends on them
 pub nobody : Sources

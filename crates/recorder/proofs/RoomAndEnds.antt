@@ -28,9 +28,9 @@ use Rattle.recorder.specs.Added.{Polls, Touches}
 use Rattle.recorder.specs.Turns.{Went, GoesOn, EndsBy, IsGoing, GainsTo, PollsTo, TurnsTo, LegTo, IsAtConsole, access_uses_console, is_due, next_size, size_at}
 use Rattle.recorder.specs.declared.solo.Ended.{Ended}
 use Rattle.recorder.specs.declared.solo.Ended.TheVariants as ended
-use Rattle.recorder.proofs.Stepping.{same_want}
-use Rattle.recorder.proofs.Held.{gains}
-use Rattle.recorder.proofs.Going.{went_nowhere, gain_went, poll_went, touch_went, leg_went}
+use Rattle.recorder.proofs.Items.{same_want}
+use Rattle.recorder.proofs.Deficit.{gains}
+use Rattle.recorder.proofs.Progress.{went_nowhere, gain_went, poll_went, touch_went, leg_went}
 use Rattle.rv_words.specs.Limits.{poll_distance}
 
 -- the log of a sound recorder has the bytes that it says

@@ -16,9 +16,9 @@ use Rattle.recorder.specs.Running.{Running, IsRecorder, gain_size, poll_size, to
 use Rattle.recorder.specs.Sources.{Sources, Accessed}
 use Rattle.recorder.specs.Added.{Polls}
 use Rattle.recorder.specs.Turns.{Went}
-use Rattle.recorder.proofs.Asking.{asks_on, asks_nothing, poll_asks, touch_asks}
-use Rattle.recorder.proofs.Moving.{moves_keep}
-use Rattle.recorder.proofs.Stepping.{move_recorded, gain_recorded, poll_recorded, touch_recorded}
+use Rattle.recorder.proofs.ConsoleAndClock.{asks_on, asks_nothing, poll_asks, touch_asks}
+use Rattle.recorder.proofs.Moves.{moves_keep}
+use Rattle.recorder.proofs.Items.{move_recorded, gain_recorded, poll_recorded, touch_recorded}
 use Rattle.recorder.proofs.Soundness.{gain_sound, poll_sound, touch_sound, leg_sound}
 
 records_on : (limit : ℕ) (items others : List Item) (r m s : SoloRecording FlatState) → Records (board unit) limit r items m

@@ -28,7 +28,7 @@ use Rattle.recorder.specs.Turns.{Ends, EndsBy, FaultsOf}
 use Rattle.recorder.specs.Kept.{Comes}
 use Rattle.recorder.specs.declared.solo.Ended.TheVariants as ended
 use Rattle.recorder.proofs.Soundness.{few_entries}
-use Rattle.recorder.proofs.Ending.{size_now}
+use Rattle.recorder.proofs.RoomAndEnds.{size_now}
 use Rattle.recorder.proofs.Ordinals.{told_in_order, no_input, no_time}
 use Rattle.recorder.specs.LoneRun.{unit}
 
@@ -76,7 +76,7 @@ in_its_range image cause s whole sound pages =
     let moves = sound.most_moves in
     let few = few_entries s sound in
     let longer = length_push s.stream (entries.End s.run.count) in
-    and_all _ _ (and_all _ _ (and_all _ _ (and_all _ _ refl (le-leb 1 image.pages whole.least_pages)) (le-leb image.pages most_pages whole.most_pages))
+    and_all _ _ (and_all _ _ (and_all _ _ (and_all _ _ refl (le-leb 1 image.pages whole.least_pages)) (le-leb image.pages most_pages whole.pages_within))
     (le-leb s.limit 1000000000000 moves))
     (and_all _ _
     (and_all _ _

@@ -8,7 +8,7 @@ use Rattle.replay_model.specs.Flat.{Flat}
 use Rattle.replay_model.specs.State.{Replay, start}
 use Rattle.replay_model.specs.Items.{step}
 use Rattle.replay_model.specs.Outcome.{Outcome, IsOutcome, outcome_at}
-use Rattle.replay_model.proofs.Driving.{mapped}
+use Rattle.replay_model.proofs.ActsOfOrders.{mapped}
 
 module _ {S E : Type 0} (step : ℕ → S → Option (S × E)) where
   abbrev Made : Type 0
