@@ -1,0 +1,17 @@
+pub mod Demands
+pub mod TurnsThere
+pub mod BoardAnswers
+pub mod ListsAndSweeps
+pub mod Ways
+pub mod Yields
+pub mod OwnTurns
+pub mod OtherHarts
+pub mod FirstHart
+pub mod Ranks
+pub mod Rounds
+pub mod Measure
+pub mod BoardDemands
+pub mod BoardNeeds
+pub mod FurtherRounds
+pub mod RoundEnds
+pub mod BoardLaws

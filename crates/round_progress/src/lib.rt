@@ -1,0 +1,29 @@
+//! Where the clock has answers enough, turns, lists and rounds are there; each round goes on, and rounds end
+//! (docs/recorder.md): laws of the recorder's turns. The functions have no bodies: they promise the laws.
+#![tactic(auto)]
+
+ghost use Rattle.round_progress.specs.Laws.{ListsAreRecorded, RoundsAreRecorded, RoundsFall, RoundsFollow, RoundsGoOn};
+ghost use Rattle.round_progress.specs.Laws.{TurnsAreThere};
+
+/// A turn with moves that its hart can make comes to a board, where the clock has two answers left.
+pub fn turns_are_there()
+    ensures { TurnsAreThere }
+{}
+
+/// A list of turns has a recording, where the clock has two answers left for each turn.
+pub fn lists_are_recorded()
+    ensures { ListsAreRecorded }
+{}
+
+/// Each round that doesn't end the run raises a count, or lets the first hart from its own on have moves ahead, and
+/// less is left behind it than before.
+pub fn rounds_go_on()
+    ensures go_on { RoundsGoOn }
+    ensures fall { RoundsFall }
+    ensures follow { RoundsFollow }
+{}
+
+/// Rounds end: where the clock has answers enough there is a recording in rounds.
+pub fn rounds_are_recorded()
+    ensures { RoundsAreRecorded }
+{}

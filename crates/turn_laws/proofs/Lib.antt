@@ -1,0 +1,10 @@
+pub mod MoreAnswers
+pub mod ReachedBoards
+pub mod Legs
+pub mod Sizes
+pub mod Polls
+pub mod Waits
+pub mod Counterparts
+pub mod TurnSizes
+pub mod ReachedLists
+pub mod LegsAtOnce

@@ -1,0 +1,60 @@
+-- The size of a board's log.
+use Rattle.std.proofs.Common.{◌≡◌, ℕ, zero, suc, ◌+◌, ◌*◌, ◌<◌, ◌++◌, List, [], ◌∷◌, Some, length, map, replicate, slice_set, refl, sym, ap, arith}
+use Rattle.std.specs.Prelude.{sum_by}
+use Rattle.std.specs.List.{enumerate_from}
+use Rattle.std.proofs.lemmas.List.Sums.{sum_by-cons, sum_by_push}
+use Rattle.log_entry.specs.declared.log.Entry.{Entry}
+use Rattle.log_entry.specs.declared.log.Entry.TheVariants.{End}
+use Rattle.log_entry.specs.Size.{size_of, size_of_stream, frame_size}
+use Rattle.turn_model.specs.Board.{unit_in, Board, Supply, Terms, board_at_start, ended_streams, stream}
+use Rattle.replay_model.specs.State.{Replay}
+use Rattle.replay_model.specs.Items.{Makes, made}
+use Rattle.shared_types.proofs.Lists.{mapped}
+use Rattle.crew_recording.specs.Recording.{stream_in}
+use Rattle.turn_model.specs.Recordable.{Recordable}
+use Rattle.turn_model.specs.Ways.{log_size, entered}
+
+-- the bytes of streams, each with an End
+abbrev total : List (List Entry) → ℕ
+total [] = 0
+total (s ∷ streams) = 13 + sum_by size_of s + total streams
+
+total_is : (unit k n : ℕ) (count : ℕ → ℕ) (streams : List (List Entry))
+    → sum_by (size_of_stream unit k) (map (λ (s : ℕ × List Entry). s.1 ++ End (count s.0) ∷ []) (enumerate_from n streams)) ≡ total streams
+total_is unit k n count [] = refl
+total_is unit k n count (s ∷ streams) =
+    let c =
+    sum_by-cons (size_of_stream unit k) (s ++ End (count n) ∷ [])
+    (map (λ (s : ℕ × List Entry). s.1 ++ End (count s.0) ∷ []) (enumerate_from (n + 1) streams)) in
+    let r = total_is unit k (n + 1) count streams in
+    let m = sum_by_push size_of s (End (count n)) in omega (arith, c, r, m)
+
+total_more : (streams : List (List Entry)) (h : ℕ) (e : Entry) → h < length streams
+    → total (slice_set streams h (stream_in streams h ++ e ∷ [])) ≡ total streams + size_of e
+total_more [] h e l = absurd (omega (arith, l))
+total_more (s ∷ streams) zero e l = let m = sum_by_push size_of s e in omega (arith, m)
+total_more (s ∷ streams) (suc h) e l = let r = total_more streams h e (omega (arith, l)) in omega (arith, r)
+
+total_none : (n : ℕ) → total (replicate n []) ≡ 13 * n
+total_none zero = refl
+total_none (suc n) = let r = total_none n in omega (arith, r)
+
+module _ {S V : Type 0} (machine : Recordable S V) (terms : Terms) where
+  size_is : (b : Board S) → log_size machine terms b ≡ 49 + total b.streams
+  size_is b = let t = total_is (unit_in terms) (length (ended_streams machine terms b)) 0 (machine.flat.count b.at.flat) b.streams in omega (arith, t)
+
+  pub sizes_stay : (b c : Board S) → c.streams ≡ b.streams → log_size machine terms c ≡ log_size machine terms b
+  sizes_stay b c same = let x = size_is b in let y = size_is c in let t = ap total same in omega (arith, x, y, t)
+
+  pub sizes_begin : (harts : ℕ) (first : S) (supply : Supply)
+      → log_size machine terms (board_at_start terms harts first supply) ≡ frame_size (unit_in terms) harts
+  sizes_begin harts first supply = let s = size_is (board_at_start terms harts first supply) in let t = total_none harts in omega (arith, s, t)
+
+  pub sizes_grow : (h : ℕ) (e : Entry) (b c : Board S) → h < length b.streams → entered machine terms h e b ≡ Some c
+      → log_size machine terms c ≡ log_size machine terms b + size_of e
+  sizes_grow h e b c l is =
+      let a =
+      mapped (λ (s : Replay S). record b { at = s; streams = slice_set b.streams h (stream b h ++ e ∷ []) }) (made machine.flat b.at h (Makes e)) c is in
+      let t = ap (λ (x : Board S). total x.streams) (sym a.2) in
+      let m = total_more b.streams h e l in
+      let x = size_is b in let y = size_is c in omega (arith, x, y, t, m)

@@ -1,0 +1,87 @@
+//! What code that takes the recorder's turns stands on (docs/recorder.md): laws of turns. The functions have no
+//! bodies: they promise the laws.
+#![tactic(auto)]
+
+ghost use Rattle.turn_laws.specs.Laws.{ClaimsAreOne, ClashesAreOne, ClosesExtend, ClosesLead, HoldsAreOne};
+ghost use Rattle.turn_laws.specs.Laws.{LastLegsAtOnce, LastTurnsExtend, LastTurnsLead, LegsAre, LegsAreShort};
+ghost use Rattle.turn_laws.specs.Laws.{LegsAtOnce, LegsStay, ListsExtend, ListsGoOn, ListsLead, MovesKeep, NeedsAreOne};
+ghost use Rattle.turn_laws.specs.Laws.{PollsBegin, PollsGrow, PollsStay, PollsTell, ReachedAreCrew, ReachedArePolled};
+ghost use Rattle.turn_laws.specs.Laws.{ReachedExtend, RecordingsExtend, RecordingsInRoundsExtend, RoundExtends};
+ghost use Rattle.turn_laws.specs.Laws.{RoundsExtend, RoundsLead, RunsStay, SizesBegin, SizesGrow, SizesStay};
+ghost use Rattle.turn_laws.specs.Laws.{StepsExtend, StepsGoOn, SweepsExtend, SweepsLead, TurnsAreShort, TurnsExtend};
+ghost use Rattle.turn_laws.specs.Laws.{WaitsBegin, WaitsFollow, WaitsStay, WaitsTell};
+
+/// What console and clock give after a turn changes nothing of it; so code can know their answers as they come.
+pub fn turns_extend()
+    ensures turn { TurnsExtend }
+    ensures list { ListsExtend }
+    ensures close { ClosesExtend }
+    ensures sweep { SweepsExtend }
+    ensures round { RoundExtends }
+    ensures rounds { RoundsExtend }
+    ensures last { LastTurnsExtend }
+    ensures recorded { RecordingsExtend }
+    ensures recorded_in_rounds { RecordingsInRoundsExtend }
+    ensures go_on { ListsGoOn }
+    ensures steps { StepsExtend }
+    ensures steps_go_on { StepsGoOn }
+{}
+
+/// From boards that turns lead to, turns lead to such boards.
+pub fn turns_lead()
+    ensures list { ListsLead }
+    ensures close { ClosesLead }
+    ensures sweep { SweepsLead }
+    ensures rounds { RoundsLead }
+    ensures last { LastTurnsLead }
+    ensures extend { ReachedExtend }
+{}
+
+/// A turn of one hart leaves what another hart sees, and so the leg that it has ahead.
+pub fn legs_stay()
+    ensures crew { ReachedAreCrew }
+    ensures runs { RunsStay }
+    ensures legs { LegsStay }
+    ensures are { LegsAre }
+    ensures at_once { LegsAtOnce }
+    ensures last_at_once { LastLegsAtOnce }
+{}
+
+/// The size of the log is a running number: the frame's, and each entry's.
+pub fn sizes_grow()
+    ensures grow { SizesGrow }
+    ensures begin { SizesBegin }
+    ensures stay { SizesStay }
+{}
+
+/// The Polls of a stream are one number: the least count at which one is due that has none.
+pub fn polls_grow()
+    ensures begin { PollsBegin }
+    ensures grow { PollsGrow }
+    ensures stay { PollsStay }
+    ensures tell { PollsTell }
+    ensures reached { ReachedArePolled }
+{}
+
+/// The Yields of a page since its latest Gain, kept entry by entry, are what a Gain waits for.
+pub fn waits_follow()
+    ensures begin { WaitsBegin }
+    ensures follow { WaitsFollow }
+    ensures stay { WaitsStay }
+    ensures tell { WaitsTell }
+    ensures moves { MovesKeep }
+{}
+
+/// What the board says of holders and needs is what a directory and a hart's run say of them.
+pub fn holders_are_one()
+    ensures clash { ClashesAreOne }
+    ensures holds { HoldsAreOne }
+    ensures needs { NeedsAreOne }
+    ensures claims { ClaimsAreOne }
+{}
+
+/// A leg ends at the next Poll, and a turn makes at most three entries more than there are harts.
+pub fn turns_are_short()
+    ensures legs { LegsAreShort }
+    ensures turns { TurnsAreShort }
+{}
