@@ -10,7 +10,7 @@ use Rattle.command_words.specs.declared.job.Usage.{Usage}
 use Rattle.command_words.specs.declared.record.RecordOptions.{RecordOptions}
 use Rattle.command_words.specs.declared.replay.ReplayOptions.{ReplayOptions}
 use Rattle.command_words.specs.Allowed.{IsOther, KeepsApart, SparesImage}
-use Rattle.command_words.specs.Behind.{Reads}
+use Rattle.command_words.specs.Behind.{ReadsWords}
 use Rattle.command_words.specs.declared.job.Job.TheVariants.{Inspect, Trace, Sample}
 use Rattle.command_words.specs.Texts.{is_name, number_in, word_at}
 use Rattle.command_words.specs.Options.{Next, AnOption, ANumber, AName, once, behind, options}
@@ -264,10 +264,10 @@ words_read (command ∷ left) =
     (either named (bytes_eq command (codes "trace")) _ _ (behind_names command left _ (trace_read command))
     (either named (bytes_eq command (codes "sample")) _ (Err 0) (sample_read named left (λ n. (tt, tt))) tt))))
 
-pub read_apart : (words : List (List ℕ)) (result : Result Job Usage) → Reads (job_of words) result → IfOk result (KeepsApart words)
+pub read_apart : (words : List (List ℕ)) (result : Result Job Usage) → ReadsWords (job_of words) result → IfOk result (KeepsApart words)
 read_apart words (Ok job) read = (IfOk-at_ok (Differ words) read (words_read words)).0
 read_apart words (Err u) read = tt
 
-pub read_sparing : (words : List (List ℕ)) (result : Result Job Usage) → Reads (job_of words) result → IfOk result (SparesImage words)
+pub read_sparing : (words : List (List ℕ)) (result : Result Job Usage) → ReadsWords (job_of words) result → IfOk result (SparesImage words)
 read_sparing words (Ok job) read = (IfOk-at_ok (Differ words) read (words_read words)).1
 read_sparing words (Err u) read = tt

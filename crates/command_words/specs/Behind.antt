@@ -32,8 +32,8 @@ place_behind true place = place + 1 + 1
 place_behind false place = place + 1
 
 -- a call answers what the definitions read
-abbrev pub Reads : {X : Type 0} → Result X ℕ → Result X Usage → Type 0
-Reads read result = MatchResult result (λ x. read ≡ Ok x) (λ u. read ≡ Err u.place)
+abbrev pub ReadsWords : {X : Type 0} → Result X ℕ → Result X Usage → Type 0
+ReadsWords read result = MatchResult result (λ x. read ≡ Ok x) (λ u. read ≡ Err u.place)
 
 -- a call read the option that stands at a place: the words from there on give what those behind it give
 abbrev pub ReadsOption : {G : Type 0} → (G → List ℕ → Option (Next G)) → List (List ℕ) → G → ℕ → List ℕ → List (List ℕ)

@@ -4,7 +4,7 @@
 
 ghost use Rattle.std.specs.Prelude.{◌≡◌, length, IfOk, Ok, Err};
 ghost use Rattle.command_words.specs.Texts.{texts};
-ghost use Rattle.command_words.specs.Behind.{Reads};
+ghost use Rattle.command_words.specs.Behind.{ReadsWords};
 ghost use Rattle.command_words.specs.Grammar.{job_of, asks_free_run};
 ghost use Rattle.command_words.specs.Allowed.{ArePlaces, IsInRange, KeepsApart, SparesImage};
 ghost use Rattle.command_words.specs.Laws.{PlacesAreFirst};
@@ -23,7 +23,7 @@ pub use job::{Job, Usage, Way};
 
 /// The job that the words ask for.
 fn job_of(words: &[String]) -> Result<Job, Usage>
-    ensures job { Reads (job_of (texts words.now)) result }
+    ensures job { ReadsWords (job_of (texts words.now)) result }
     ensures places { IfOk result (ArePlaces (length words.now)) }
     ensures ranges { IfOk result IsInRange }
 {
@@ -43,7 +43,7 @@ fn job_of(words: &[String]) -> Result<Job, Usage>
 /// The job that the words ask for, exactly where they are in the grammar.
 #[tactic(auto, using(crate::proofs::Names::read_apart, crate::proofs::Names::read_sparing))]
 pub fn read_words(words: &[String]) -> Result<Job, Usage>
-    ensures job { Reads (job_of (texts words.now)) result }
+    ensures job { ReadsWords (job_of (texts words.now)) result }
     ensures places { IfOk result (ArePlaces (length words.now)) }
     ensures ranges { IfOk result IsInRange }
     ensures names { IfOk result (KeepsApart (texts words.now)) }

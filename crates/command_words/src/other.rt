@@ -1,6 +1,6 @@
 ghost use Rattle.std.specs.Prelude.{◌≡◌, ◌+◌, length, IfOk, Ok, Err};
 ghost use Rattle.command_words.specs.Texts.{texts};
-ghost use Rattle.command_words.specs.Behind.{Reads};
+ghost use Rattle.command_words.specs.Behind.{ReadsWords};
 ghost use Rattle.command_words.specs.Grammar.{inspect_of, trace_of, moves_of, sample_of};
 ghost use Rattle.command_words.specs.Allowed.{ArePlaces, IsInRange};
 
@@ -16,7 +16,7 @@ const LONGEST_TRACE: u64 = 1_000_000;
 
 /// The job of the words behind `inspect`.
 pub(crate) fn inspect_words(words: &[String]) -> Result<Job, Usage>
-    ensures reads { Reads (inspect_of (texts words.now)) result }
+    ensures reads { ReadsWords (inspect_of (texts words.now)) result }
     ensures places { IfOk result (ArePlaces (1 + length words.now)) }
     ensures ranges { IfOk result IsInRange }
 {
@@ -30,7 +30,7 @@ pub(crate) fn inspect_words(words: &[String]) -> Result<Job, Usage>
 
 /// The job of the words behind `sample`.
 pub(crate) fn sample_words(words: &[String]) -> Result<Job, Usage>
-    ensures reads { Reads (sample_of (texts words.now)) result }
+    ensures reads { ReadsWords (sample_of (texts words.now)) result }
     ensures places { IfOk result (ArePlaces (1 + length words.now)) }
     ensures ranges { IfOk result IsInRange }
 {
@@ -48,7 +48,7 @@ pub(crate) fn sample_words(words: &[String]) -> Result<Job, Usage>
 
 /// The trace that the words behind IMAGE and LOG ask for: HART FROM TO.
 fn moves_words(words: &[String]) -> Result<Job, Usage>
-    ensures reads { Reads (moves_of (texts words.now)) result }
+    ensures reads { ReadsWords (moves_of (texts words.now)) result }
     ensures places { IfOk result (ArePlaces 3) }
     ensures ranges { IfOk result IsInRange }
 {
@@ -84,7 +84,7 @@ fn moves_words(words: &[String]) -> Result<Job, Usage>
 
 /// The job of the words behind `trace`.
 pub(crate) fn trace_words(words: &[String]) -> Result<Job, Usage>
-    ensures reads { Reads (trace_of (texts words.now)) result }
+    ensures reads { ReadsWords (trace_of (texts words.now)) result }
     ensures places { IfOk result (ArePlaces (1 + length words.now)) }
     ensures ranges { IfOk result IsInRange }
 {

@@ -1,7 +1,7 @@
 ghost use Rattle.std.specs.Prelude.{◌≡◌, ◌+◌, ◌<◌, ◌^◌, IsTrue, [], ◌∷◌, length, string_bytes, IfOk, Ok, Err};
 ghost use Rattle.command_words.specs.Texts.{texts};
 ghost use Rattle.command_words.specs.Options.{options, AnOption};
-ghost use Rattle.command_words.specs.Behind.{Reads, ReadsOption};
+ghost use Rattle.command_words.specs.Behind.{ReadsWords, ReadsOption};
 ghost use Rattle.command_words.specs.Tables.{record_option, no_record_option};
 ghost use Rattle.command_words.specs.Grammar.{record_of};
 ghost use Rattle.command_words.specs.Allowed.{IsBelow, AreInRange, ArePlaces, IsInRange};
@@ -66,7 +66,7 @@ fn record_option(
 }
 
 fn record_options(words: &[String], image: &String, log: &String) -> Result<RecordOptions, Usage>
-    ensures reads { Reads
+    ensures reads { ReadsWords
         (options record_option (string_bytes image.now ∷ string_bytes log.now ∷ []) (AnOption no_record_option) 3
         (texts words.now)) result }
     ensures dump { IfOk result (λ given. IsBelow (3 + length words.now) given.dump) }
@@ -93,7 +93,7 @@ fn record_options(words: &[String], image: &String, log: &String) -> Result<Reco
 
 /// The job of the words behind `record`.
 pub(crate) fn record_words(words: &[String]) -> Result<Job, Usage>
-    ensures reads { Reads (record_of (texts words.now)) result }
+    ensures reads { ReadsWords (record_of (texts words.now)) result }
     ensures places { IfOk result (ArePlaces (1 + length words.now)) }
     ensures ranges { IfOk result IsInRange }
 {

@@ -1,7 +1,7 @@
 ghost use Rattle.std.specs.Prelude.{◌≡◌, ◌+◌, ◌<◌, ◌^◌, IsTrue, [], ◌∷◌, length, string_bytes, IfOk, Ok, Err};
 ghost use Rattle.command_words.specs.Texts.{texts};
 ghost use Rattle.command_words.specs.Options.{options, AnOption};
-ghost use Rattle.command_words.specs.Behind.{Reads, ReadsOption};
+ghost use Rattle.command_words.specs.Behind.{ReadsWords, ReadsOption};
 ghost use Rattle.command_words.specs.Tables.{replay_option, no_replay_option};
 ghost use Rattle.command_words.specs.Grammar.{replay_of};
 ghost use Rattle.command_words.specs.Allowed.{IsBelow, ArePlaces, IsInRange};
@@ -63,7 +63,7 @@ fn replay_option(
 }
 
 fn replay_options(words: &[String], image: &String, log: &String) -> Result<ReplayOptions, Usage>
-    ensures reads { Reads
+    ensures reads { ReadsWords
         (options replay_option (string_bytes image.now ∷ string_bytes log.now ∷ []) (AnOption no_replay_option) 3
         (texts words.now)) result }
     ensures dump { IfOk result (λ given. IsBelow (3 + length words.now) given.dump) }
@@ -85,7 +85,7 @@ fn replay_options(words: &[String], image: &String, log: &String) -> Result<Repl
 
 /// The job of the words behind `replay`.
 pub(crate) fn replay_words(words: &[String]) -> Result<Job, Usage>
-    ensures reads { Reads (replay_of (texts words.now)) result }
+    ensures reads { ReadsWords (replay_of (texts words.now)) result }
     ensures places { IfOk result (ArePlaces (1 + length words.now)) }
     ensures ranges { IfOk result IsInRange }
 {

@@ -1,6 +1,6 @@
 ghost use Rattle.std.specs.Prelude.{◌≡◌, ◌+◌, ◌<◌, ◌≤◌, ◌^◌, [], ◌∷◌, length, string_bytes, IfOk, Ok, Err};
 ghost use Rattle.command_words.specs.Texts.{texts};
-ghost use Rattle.command_words.specs.Behind.{number_behind, name_behind, Reads};
+ghost use Rattle.command_words.specs.Behind.{number_behind, name_behind, ReadsWords};
 
 use crate::Usage;
 use crate::word::{is_third_name, number_in};
@@ -14,7 +14,7 @@ pub(crate) fn number_behind(
     greatest: u64,
 ) -> Result<u64, Usage>
     requires { place < 2 ^ 63 }
-    ensures value { Reads (number_behind again place (texts words.now) least greatest) result }
+    ensures value { ReadsWords (number_behind again place (texts words.now) least greatest) result }
     ensures range { IfOk result (λ n. (least ≤ n) × (n ≤ greatest)) }
 {
     if again {
@@ -38,7 +38,7 @@ pub(crate) fn name_behind(
     log: &String,
 ) -> Result<u64, Usage>
     requires { place < 2 ^ 63 }
-    ensures value { Reads
+    ensures value { ReadsWords
         (name_behind again place (texts words.now) (string_bytes image.now ∷ string_bytes log.now ∷ [])) result }
     ensures there { IfOk result (λ n. n < place + 1 + length words.now) }
 {

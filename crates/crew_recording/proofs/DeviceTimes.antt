@@ -10,7 +10,8 @@ use Rattle.rv_words.specs.declared.shared.DeviceWord.{DeviceWord}
 use Rattle.rv_words.specs.declared.shared.DeviceWord.TheVariants.{Msip, CompareLow, CompareHigh, TimeLow, TimeHigh, Rx, Tx, Stop}
 use Rattle.rv_words.specs.Addresses.{device_word}
 use Rattle.device_board.specs.State.{Devices, with_time}
-use Rattle.device_board.specs.Accesses.{touched, word_touched, loaded, stored, timed}
+use Rattle.device_board.specs.Accesses.{touched, word_touched, loaded, timed}
+use Rattle.replay_model.proofs.Times.{store_on}
 
 -- mtime after an access: not lower, and a Time input's own time
 pub record GoesOn (d e : Devices) (input : Input) : Type 0 where
@@ -70,16 +71,6 @@ load_on d e Stop Nothing w is = kept d e _ w Nothing refl is
 load_on d e Stop Empty w is = absurd (none-some _ is)
 load_on d e Stop (Byte b) w is = absurd (none-some _ is)
 load_on d e Stop (Time t) w is = absurd (none-some _ is)
-
-store_on : (d : Devices) (word : DeviceWord) (v : ℕ) → (stored d word v).mtime ≡ d.mtime
-store_on d (Msip h) v = refl
-store_on d (CompareLow h) v = refl
-store_on d (CompareHigh h) v = refl
-store_on d TimeLow v = refl
-store_on d TimeHigh v = refl
-store_on d Rx v = refl
-store_on d Tx v = refl
-store_on d Stop v = refl
 
 word_on : (d e : Devices) (word : DeviceWord) (store : Option ℕ) (input : Input) (w : ℕ) → word_touched d word store input ≡ Some (e, w) → GoesOn d e input
 word_on d e word None input w is = load_on d e word input w is

@@ -7,7 +7,7 @@ use Rattle.std.proofs.Math.ListN.{length-take}
 use Rattle.rv_words.specs.Memory.{put}
 use Rattle.rv_words.proofs.Memory.{length_put}
 use Rattle.elf_image.specs.Image.{memory_size}
-use Rattle.elf_image.specs.Loading.{contents, placed, is_placed}
+use Rattle.elf_image.specs.Loading.{segment_bytes, placed, is_placed}
 use Rattle.elf_image.specs.Layers.{start_of, end_of, given_at}
 use Rattle.elf_image.specs.Rules.{passes_file, passes_memory}
 use Rattle.elf_image.specs.declared.elf.Segment.{Segment}
@@ -36,7 +36,7 @@ module _ (mem : List ℕ) (place : ℕ) (bytes : List ℕ) (fits : place + lengt
       ∙ get_or-drop (place + length bytes) mem (at - (place + length bytes)) 0
       ∙ ap (λ k. get_or mem k 0) (omega (arith, l))
 
-pub length_contents : (file : List ℕ) (s : Segment) → is_placed s ≡ true → passes_file (length file) s ≡ false → length (contents file s) ≡ s.memory_size
+pub length_contents : (file : List ℕ) (s : Segment) → is_placed s ≡ true → passes_file (length file) s ≡ false → length (segment_bytes file s) ≡ s.memory_size
 length_contents file s is kept =
     let a : s.file_size ≤ s.memory_size = grind (arith, common_steps, is, kept) in
     let b : length (slice_range file s.offset (s.offset + s.file_size)) ≡ s.file_size =
@@ -53,7 +53,7 @@ length_contents file s is kept =
 -- a segment that lies in the file, and in a memory of so many pages
 module _ (file : List ℕ) (pages : ℕ) (s : Segment) (kept : passes_file (length file) s ≡ false) (in_memory : passes_memory pages s ≡ false) (mem : List ℕ)
     (size : length mem ≡ memory_size pages) where
-  fits : is_placed s ≡ true → start_of s + length (contents file s) ≤ length mem
+  fits : is_placed s ≡ true → start_of s + length (segment_bytes file s) ≤ length mem
   fits is =
       let n = length_contents file s is kept in
       let inside : start_of s + s.memory_size ≤ memory_size pages = grind (arith, common_steps, is, in_memory) in
@@ -62,13 +62,13 @@ module _ (file : List ℕ) (pages : ℕ) (s : Segment) (kept : passes_file (leng
   pub length_placed : length (placed file s mem) ≡ length mem
   length_placed = by (is_placed s) refl where
     by : (b : Bool) → is_placed s ≡ b → length (placed file s mem) ≡ length mem
-    by true is = rw is (length_put mem (contents file s) (start_of s) (fits is))
+    by true is = rw is (length_put mem (segment_bytes file s) (start_of s) (fits is))
     by false is = rw is refl
 
   pub placed_below : (at : ℕ) → at < start_of s → get_or (placed file s mem) at 0 ≡ get_or mem at 0
   placed_below at l = by (is_placed s) refl where
     by : (b : Bool) → is_placed s ≡ b → get_or (placed file s mem) at 0 ≡ get_or mem at 0
-    by true is = rw is (put_below mem (start_of s) (contents file s) (fits is) at l)
+    by true is = rw is (put_below mem (start_of s) (segment_bytes file s) (fits is) at l)
     by false is = rw is refl
 
   pub placed_above : (at : ℕ) → end_of s ≤ at → get_or (placed file s mem) at 0 ≡ get_or mem at 0
@@ -77,7 +77,7 @@ module _ (file : List ℕ) (pages : ℕ) (s : Segment) (kept : passes_file (leng
     by true is =
         let n = length_contents file s is kept in
         let m : start_of s + s.memory_size ≤ at = rw is at l in
-        rw is (put_above mem (start_of s) (contents file s) (fits is) at (omega (arith, n, m)))
+        rw is (put_above mem (start_of s) (segment_bytes file s) (fits is) at (omega (arith, n, m)))
     by false is = rw is refl
 
   pub placed_inside : (at : ℕ) → start_of s ≤ at → at < end_of s → get_or (placed file s mem) at 0 ≡ given_at file s at
@@ -86,5 +86,5 @@ module _ (file : List ℕ) (pages : ℕ) (s : Segment) (kept : passes_file (leng
     by true is =
         let n = length_contents file s is kept in
         let k : at < start_of s + s.memory_size = rw is at m in
-        rw is (put_inside mem (start_of s) (contents file s) (fits is) at l (omega (arith, n, k)))
+        rw is (put_inside mem (start_of s) (segment_bytes file s) (fits is) at l (omega (arith, n, k)))
     by false is = let k : at < start_of s = rw is at m in absurd (omega (arith, k, l))

@@ -1,7 +1,7 @@
 -- A memory that is written so that a byte once written stays.
 use Rattle.std.specs.Prelude.{ℕ, ◌≡◌, ◌+◌, ◌*◌, ◌/◌, ◌-◌, ◌≤◌, ◌<◌, true, false, Bool, List, length, replicate, slice_index, if◌then◌else◌}
 use Rattle.elf_image.specs.Image.{memory_size}
-use Rattle.elf_image.specs.Loading.{contents, is_placed}
+use Rattle.elf_image.specs.Loading.{segment_bytes, is_placed}
 use Rattle.elf_image.specs.Marks.{is_marked}
 use Rattle.elf_image.specs.Rules.{passes_file}
 use Rattle.elf_image.specs.declared.elf.Segment.{Segment}
@@ -36,7 +36,7 @@ abbrev pub end_of : Segment → ℕ
 end_of s = if is_placed s then start_of s + s.memory_size else start_of s
 
 abbrev pub given_at : List ℕ → Segment → ℕ → ℕ
-given_at file s at = slice_index (contents file s) (at - start_of s)
+given_at file s at = slice_index (segment_bytes file s) (at - start_of s)
 
 -- the segment's bytes from `from` to `to` can be written into the layer
 pub record CanFill (file : List ℕ) (s : Segment) (from to : ℕ) (layer : Layer) : Type 0 where

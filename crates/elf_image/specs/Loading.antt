@@ -7,8 +7,8 @@ use Rattle.elf_image.specs.Elf.{is_elf, entry, segments, is_loadable}
 use Rattle.elf_image.specs.declared.elf.Segment.{Segment}
 
 -- the bytes of a segment: those of the file, and zeros up to its size in memory
-abbrev pub contents : List ℕ → Segment → List ℕ
-contents file s = slice_range file s.offset (s.offset + s.file_size) ++ replicate (s.memory_size - s.file_size) 0
+abbrev pub segment_bytes : List ℕ → Segment → List ℕ
+segment_bytes file s = slice_range file s.offset (s.offset + s.file_size) ++ replicate (s.memory_size - s.file_size) 0
 
 -- a PT_LOAD with bytes in memory
 abbrev pub is_placed : Segment → Bool
@@ -16,7 +16,7 @@ is_placed s = is_loadable s && nat_lt 0 s.memory_size
 
 -- the memory with a segment at its physical address
 abbrev pub placed : List ℕ → Segment → List ℕ → List ℕ
-placed file s memory = if is_placed s then put memory (s.address - 0x80000000) (contents file s) else memory
+placed file s memory = if is_placed s then put memory (s.address - 0x80000000) (segment_bytes file s) else memory
 
 -- the segments in table order, later ones over earlier ones
 abbrev pub loaded : List ℕ → List Segment → List ℕ → List ℕ

@@ -4,7 +4,7 @@ ghost use Rattle.std.specs.Prelude.{◌≡◌, ◌+◌, ◌*◌, ◌≤◌, ◌<
 ghost use Rattle.rv_words.specs.Limits.{most_pages};
 ghost use Rattle.elf_image.specs.Image.{memory_size};
 ghost use Rattle.elf_image.specs.Elf.{is_loadable};
-ghost use Rattle.elf_image.specs.Loading.{contents};
+ghost use Rattle.elf_image.specs.Loading.{segment_bytes};
 ghost use Rattle.elf_image.specs.Layers.{CanFill, Fills, IsBlank, start_of, end_of, given_at};
 ghost use Rattle.elf_image.specs.Rules.{passes_file, passes_memory};
 
@@ -26,7 +26,7 @@ fn byte_of(file: &[u8], segment: Segment, at: usize) -> u8
     requires loadable { is_loadable segment ≡ true }
     requires kept { passes_file (length file.now) segment ≡ false }
     requires within { at < segment.memory_size }
-    ensures { result ≡ slice_index (contents file.now segment) at }
+    ensures { result ≡ slice_index (segment_bytes file.now segment) at }
 {
     if at < segment.file_size as usize {
         file[segment.offset as usize + at]

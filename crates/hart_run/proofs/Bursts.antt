@@ -18,7 +18,7 @@ use Rattle.flat_machine.specs.Moves.{move_of}
 use Rattle.replay_model.specs.State.{Replay}
 use Rattle.run_model.specs.Run.{Run, lacks, word_held, word_of, fetched_from, move_held, ahead_of, data_ahead, loaded_held, stored_in, moved_by, IsOneRun}
 use Rattle.run_model.specs.Legs.{KeepsPages, HasLed}
-use Rattle.hart_run.specs.Bursts.{Goes, HasGone, lagged, Passed}
+use Rattle.hart_run.specs.Bursts.{MovesFreely, HasGone, lagged, Passed}
 use Rattle.run_model.specs.declared.asked.Ahead.TheVariants.{Free}
 use Rattle.run_model.proofs.Laws.{asks_by_word, leads_on, keeps_on_move, stays_one}
 
@@ -81,21 +81,21 @@ passes r pc word i e loaded f =
       move = λ n none. one_more r n r.hart e loaded f.quiet f.loaded_is ∙ ap (moved_by (lagged n r)) (sym (move_is n r pc word i e loaded f none));
     }
 
-pub goes_further : (n : ℕ) (old r new : Run) → Goes n old (lagged n r) → Passed r new → is_some (pending r.hart.csrs) ≡ false
-    → Goes (suc n) old (lagged (suc n) new)
+pub goes_further : (n : ℕ) (old r new : Run) → MovesFreely n old (lagged n r) → Passed r new → is_some (pending r.hart.csrs) ≡ false
+    → MovesFreely (suc n) old (lagged (suc n) new)
 goes_further n old r new g p none = (lagged n r, g, p.free n none, p.move n none)
 
-pub one_on : (n : ℕ) (r t : Run) → IsOneRun r → Goes n r t → IsOneRun t
+pub one_on : (n : ℕ) (r t : Run) → IsOneRun r → MovesFreely n r t → IsOneRun t
 one_on zero r t one g = subst IsOneRun (sym g) one
 one_on (suc n) r t one (m, g, f, is) = subst IsOneRun (sym is) (stays_one m (one_on n r m one g))
 
 -- a burst leads on as its moves do
-pub led_on : (unit n : ℕ) (r t : Run) (h : ℕ) (s : Replay FlatState) → IsOneRun r → HasLed unit r h s → Goes n r t → HasLed unit t h s
+pub led_on : (unit n : ℕ) (r t : Run) (h : ℕ) (s : Replay FlatState) → IsOneRun r → HasLed unit r h s → MovesFreely n r t → HasLed unit t h s
 led_on unit zero r t h s one led g = subst (λ z. HasLed unit z h s) (sym g) led
 led_on unit (suc n) r t h s one led (m, g, f, is) =
     subst (λ z. HasLed unit z h s) (sym is) (leads_on unit m h s (led_on unit n r m h s one led g) (one_on n r m one g) f)
 
-pub keeps_on : (n : ℕ) (old r t : Run) → KeepsPages old r → Goes n r t → KeepsPages old t
+pub keeps_on : (n : ℕ) (old r t : Run) → KeepsPages old r → MovesFreely n r t → KeepsPages old t
 keeps_on zero old r t k g = subst (KeepsPages old) (sym g) k
 keeps_on (suc n) old r t k (m, g, f, is) = subst (KeepsPages old) (sym is) (keeps_on_move old m (keeps_on n old r m k g) f)
 
@@ -108,7 +108,7 @@ led_gone unit r t h s one g led = led_on unit g.moves r t h s one led g.goes
 pub keeps_gone : (old r t : Run) → HasGone r t → KeepsPages old r → KeepsPages old t
 keeps_gone old r t g k = keeps_on g.moves old r t k g.goes
 
-count_on : (n : ℕ) (r t : Run) → Goes n r t → t.count ≡ r.count + n
+count_on : (n : ℕ) (r t : Run) → MovesFreely n r t → t.count ≡ r.count + n
 count_on zero r t g = ap (λ (z : Run). z.count) g ∙ (omega arith)
 count_on (suc n) r t (m, g, f, is) =
     let c = count_on n r m g in

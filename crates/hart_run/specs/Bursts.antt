@@ -6,14 +6,14 @@ use Rattle.run_model.specs.Run.{Run, moved_by, move_held, ahead_of}
 use Rattle.run_model.specs.declared.asked.Ahead.TheVariants.{Free}
 
 -- so many moves that ask for nothing lead from one run to another
-abbrev pub Goes : ℕ → Run → Run → Type 0
-Goes zero r t = t ≡ r
-Goes (suc n) r t = (m : Run) × Goes n r m × (ahead_of m ≡ Free) × (t ≡ moved_by m (move_held m))
+abbrev pub MovesFreely : ℕ → Run → Run → Type 0
+MovesFreely zero r t = t ≡ r
+MovesFreely (suc n) r t = (m : Run) × MovesFreely n r m × (ahead_of m ≡ Free) × (t ≡ moved_by m (move_held m))
 
 -- some number of such moves lead from one to the other
 pub record HasGone (old new : Run) : Type 0 where
   pub moves : ℕ
-  pub goes : Goes moves old new
+  pub goes : MovesFreely moves old new
 
 -- the run once so many moves are counted that it made uncounted
 abbrev pub lagged : ℕ → Run → Run

@@ -64,5 +64,5 @@ abbrev pub GiveAgrees : Run → Run → ℕ → Option Mode → Pages → Bool �
 GiveAgrees old new page left store ended = (h : ℕ) (s : Replay FlatState) → Agrees old h s → Yields old.frames.unit new store h page left ended s
 
 -- its frames once the page's bytes are given to the store
-abbrev pub bytes_given : Run → ℕ → Option Mode → Pages → Run
-bytes_given r page left store = record r { frames = frames_given r page (hold_of r page) left store }
+abbrev pub page_given : Run → ℕ → Option Mode → Pages → Run
+page_given r page left store = record r { frames = frames_given r page (hold_of r page) left store }

@@ -17,7 +17,7 @@ ghost use Rattle.run_model.specs.Run.{stronger, needed_in, most_needed, claim_of
 ghost use Rattle.run_model.specs.Run.{taken, store_taken, given, store_given, hart_given, ends_with};
 ghost use Rattle.hart_run.specs.Bursts.{HasGone, Passes};
 ghost use Rattle.hart_run.specs.Calls.{StartIsRight, AheadIsRight, WordAgrees, FrameAgrees, ClaimAgrees, LegAgrees};
-ghost use Rattle.hart_run.specs.Calls.{TouchAgrees, LinesAgree, TakeAgrees, GiveAgrees, lined, bytes_given};
+ghost use Rattle.hart_run.specs.Calls.{TouchAgrees, LinesAgree, TakeAgrees, GiveAgrees, lined, page_given};
 
 use crate::decoded::Decodings;
 use elf_image::Image;
@@ -511,7 +511,7 @@ impl HartRun {
         requires page { page < length self.old.frames.pages }
         requires unit { store.old.unit ≡ self.old.frames.unit }
         requires pages { length store.old.pages ≡ length self.old.frames.pages }
-        ensures run { self.new ≡ bytes_given self.old page left store.old }
+        ensures run { self.new ≡ page_given self.old page left store.old }
         ensures store { store.new ≡ store_given self.old page (hold_of self.old page) store.old }
     {
         match (self.held[page as usize], left) {

@@ -42,7 +42,7 @@ use Rattle.replay_law.proofs.Tables.{held_stays}
 use Rattle.replay_law.proofs.Verdicts.{act_is}
 use Rattle.replay_law.proofs.Views.{Shape, Sound, shape_of, view, view_agrees}
 use Rattle.replay_law.proofs.Boards.{made_of, view_stays}
-use Rattle.replay_law.proofs.Orders.{Good, good_first, lasts}
+use Rattle.replay_law.proofs.Orders.{good_first, good_along}
 use Rattle.turn_model.specs.Recordable.{board_machine}
 use Rattle.turn_model.specs.Board.{Terms, unit_in}
 use Rattle.turn_model.specs.Laws.{IsPagedBoard}
@@ -90,11 +90,6 @@ module _ (shape : Shape) where
       ∙ find_same _ _ ((board shape.unit).need t.flat h)
       (λ m. ap (λ o. nat_lt (strength o) (strength (Some m.1))) (held_stays s.holders m.0 g h (hold_in x.item) other))
       ∙ f
-
-pub good_along : (log : Log) (image : Image) (is : IsReplayable log image) (s t : Replay FlatState) (made : List (ℕ × Option (List Step)))
-    → Good log image is s → Leads (step (board (unit_of log)) log) s made t → Good log image is t
-good_along log image is s t [] good leads = subst (Good log image is) leads good
-good_along log image is s t (x ∷ made) good leads = good_along log image is leads.0 t made (lasts log image is s leads.0 x.1 x.0 good leads.1) leads.2
 
 pub one_step : (log : Log) (g : ℕ) (s t : Replay FlatState) (made : List (ℕ × Option (List Step))) → map (λ (m : ℕ × Option (List Step)). m.0) made ≡ g ∷ []
     → Leads (step (board (unit_of log)) log) s made t → (w : Option (List Step)) × (step (board (unit_of log)) log g s ≡ Some (t, w))

@@ -17,7 +17,7 @@ Gives view (Ok x) read = read ≡ Ok (view x)
 Gives view (Err e) read = Fails e read
 
 -- the log that was read, or the bad field, is that of the reading
-abbrev pub Answers : Result Log ReadError → Result Log Bad → Type 0
-Answers (Ok log) read = read ≡ Ok (log_without_room log)
-Answers (Err errors.NoMemory) read = Unit {0}
-Answers (Err (errors.Malformed offset rule)) read = read ≡ Err (offset, rule)
+abbrev pub ReadsAs : Result Log ReadError → Result Log Bad → Type 0
+ReadsAs (Ok log) read = read ≡ Ok (log_without_room log)
+ReadsAs (Err errors.NoMemory) read = Unit {0}
+ReadsAs (Err (errors.Malformed offset rule)) read = read ≡ Err (offset, rule)

@@ -4,7 +4,7 @@ ghost use Rattle.log_entry.specs.declared.log.Log.{Log};
 ghost use Rattle.log_entry.specs.Room.{stream_without_room, log_without_room};
 ghost use Rattle.log_entry.specs.Range.{in_range};
 ghost use Rattle.log_format.specs.Format.{repeat_at, whole};
-ghost use Rattle.log_format.specs.Answers.{Gives, Answers};
+ghost use Rattle.log_format.specs.Answers.{Gives, ReadsAs};
 ghost use Rattle.log_format.specs.Grammar.{head_format, cause_format, stream_format, log_format, magic, spelling, reading};
 
 use crate::entries::stream_of;
@@ -107,7 +107,7 @@ pub fn read_log(alloc: Global, bytes: &[u8]) -> Result<Log, ReadError>
     ensures only { (l : Log) → log_format.Fits (log_without_room l) → bytes.now ≡ spelling l
         → MatchResult result (λ r. log_without_room r ≡ log_without_room l) (λ e. e ≡ ReadError.NoMemory) }
     // The first bad field and its rule.
-    ensures answer { Answers result (reading bytes.now) }
+    ensures answer { ReadsAs result (reading bytes.now) }
 {
     match whole_log(alloc, bytes) {
         Ok(log) => Ok(log),

@@ -26,7 +26,7 @@ use Rattle.order_rules.proofs.Numbers.{numbers_name, in_stream}
 use Rattle.log_order.specs.declared.orderly.Leg.{Leg}
 use Rattle.log_order.specs.declared.series.Series.TheVariants.{Pages}
 use Rattle.log_order.specs.Rows.{slot, AreFilled}
-use Rattle.log_order.specs.Holding.{hold_of, holds_wrongly, waits_of, waits_wrongly, yields_after, AreHeld, AreDue, AreFew}
+use Rattle.log_order.specs.Holding.{hold_of, holds_wrongly, waits_of, waits_wrongly, yields_after, AreHeld, AreDue, YieldsAreFew}
 
 -- where no entry passes, none is found
 module _ (f : Entry → Bool) where
@@ -164,22 +164,22 @@ most_held (x ∷ holds) =
     at_most (Some Read) = omega arith
     at_most (Some Write) = omega arith
 
-pub few_at_first : (holds : List (Option Mode)) → AreFew holds []
+pub few_at_first : (holds : List (Option Mode)) → YieldsAreFew holds []
 few_at_first holds = let m = most_held holds in omega (arith, m)
 
 -- a yield that leaves less than its hart held
-pub few_yielded : (holds : List (Option Mode)) (yields : List WaitFor) (h count : ℕ) (left : Option Mode) → AreFew holds yields → h < length holds
+pub few_yielded : (holds : List (Option Mode)) (yields : List WaitFor) (h count : ℕ) (left : Option Mode) → YieldsAreFew holds yields → h < length holds
     → nat_le (strength (hold_of holds h)) (strength left) ≡ false
-    → AreFew (slice_set holds h left) (yields ++ record { hart = h; count = count } ∷ [])
+    → YieldsAreFew (slice_set holds h left) (yields ++ record { hart = h; count = count } ∷ [])
 few_yielded holds yields h count left few l less =
     let weight = sum_by-set strength holds h left None l in
     let fell = leb-false (strength (hold_of holds h)) (strength left) less in
     omega (arith, few, weight, fell, length-set holds h left, length-append yields (record { hart = h; count = count } ∷ []))
 
 -- and before it is told
-pub few_given_back : (holds : List (Option Mode)) (yields : List WaitFor) (h : ℕ) (left : Option Mode) → AreFew holds yields → h < length holds
+pub few_given_back : (holds : List (Option Mode)) (yields : List WaitFor) (h : ℕ) (left : Option Mode) → YieldsAreFew holds yields → h < length holds
     → nat_le (strength (hold_of holds h)) (strength left) ≡ false
-    → AreFew (slice_set holds h left) yields
+    → YieldsAreFew (slice_set holds h left) yields
 few_given_back holds yields h left few l less =
     let weight = sum_by-set strength holds h left None l in
     let fell = leb-false (strength (hold_of holds h)) (strength left) less in

@@ -1,7 +1,7 @@
 -- From the first place in each stream to the first spot of a log.
 use Rattle.std.proofs.Common.{◌≡◌, ℕ, suc, ◌+◌, ◌<◌, Bool, false, List, [], length, get_or, find, Some, None, refl, sym, ap, ◌∙◌, subst, inl, inr, arith, eq-or-lt_of_le, le_of_suc-le-suc}
 use Rattle.std.specs.Prelude.{slice_get, unwrap_or, Option}
-use Rattle.std.proofs.lemmas.Option.{same_Some, slice_get_read, slice_get_within, slice_get-get_or, unwrap_or-slice_get}
+use Rattle.std.proofs.lemmas.Option.{same_Some, slice_get_read, slice_get_within}
 use Rattle.log_entry.specs.declared.log.Entry.{Entry}
 use Rattle.log_entry.specs.declared.log.Log.{Log}
 use Rattle.order_rules.specs.Places.{stream}
@@ -15,9 +15,6 @@ pub reading : (streams given : List (List Entry)) (h : ℕ) (s t : List Entry) �
     → slice_get streams h ≡ Some t
 reading streams given h s t same lt read shown =
     ap (λ (xs : List (List Entry)). slice_get xs h) (sym same) ∙ slice_get_read given (length given) h s refl lt read ∙ ap Some (sym shown)
-
-pub stream_there : (log : Log) (h : ℕ) → h < length log.streams → slice_get log.streams h ≡ Some (stream log h)
-stream_there log h l = slice_get-get_or log.streams h [] l ∙ ap Some (sym (unwrap_or-slice_get log.streams h []))
 
 -- row by row of the spots
 module _ (log : Log) (rule : Spot → Bool) where

@@ -28,8 +28,8 @@ holds_wrongly holds h (Yield count page seq left) = nat_le (strength (hold_of ho
 holds_wrongly holds h _ = false
 
 -- the yields are no more than what has been given back: at most Write by each hart, in two steps
-abbrev pub AreFew : List (Option Mode) → List WaitFor → Type 0
-AreFew holds yields = length yields + sum_by strength holds ≤ 2 * length holds
+abbrev pub YieldsAreFew : List (Option Mode) → List WaitFor → Type 0
+YieldsAreFew holds yields = length yields + sum_by strength holds ≤ 2 * length holds
 
 -- those by other harts
 abbrev pub waits_of : List WaitFor → ℕ → List WaitFor

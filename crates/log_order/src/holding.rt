@@ -18,13 +18,13 @@ pub(crate) struct Holding {
 }
 
 impl Model for Holding {
-    ghost use Rattle.log_order.specs.Holding.{Holding as HoldingView, AreFew};
+    ghost use Rattle.log_order.specs.Holding.{Holding as HoldingView, YieldsAreFew};
 
     ghost Value = { HoldingView };
 
     ghost view = { λ h. record { holds = h.holds.items; yields = h.yields.items } };
 
-    ghost invariant = { λ h. AreFew h.holds.items h.yields.items };
+    ghost invariant = { λ h. YieldsAreFew h.holds.items h.yields.items };
 }
 
 fn holds_then(e: &Entry) -> Option<Mode>

@@ -59,10 +59,9 @@ fn smallest_log(alloc: Global) -> Result<Log, Fail> {
     })
 }
 
-/// Hart 1 gains a page that hart 0 yielded.
-fn shared_page_log(alloc: Global) -> Result<Log, Fail> {
-    let waits = Waits::of(vec![in alloc; WaitFor { hart: 0, count: 3 }]?);
-    let yields = Entries::of(vec![in alloc;
+/// A hart that yields a page, and then has one input of each kind.
+fn yields(alloc: Global) -> Result<Entries, Fail> {
+    Ok(Entries::of(vec![in alloc;
         Entry::Yield {
             count: 3,
             page: 1,
@@ -85,7 +84,13 @@ fn shared_page_log(alloc: Global) -> Result<Log, Fail> {
             input: Input::Empty
         },
         Entry::End { count: 11 },
-    ]?);
+    ]?))
+}
+
+/// Hart 1 gains a page that hart 0 yielded.
+fn shared_page_log(alloc: Global) -> Result<Log, Fail> {
+    let waits = Waits::of(vec![in alloc; WaitFor { hart: 0, count: 3 }]?);
+    let yields = yields(alloc)?;
     let gains = Entries::of(vec![in alloc;
         Entry::Gain {
             count: 3,

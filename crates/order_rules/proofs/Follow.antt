@@ -1,5 +1,5 @@
 -- The holders of a replay follow the log.
-use Rattle.std.proofs.Common.{◌≡◌, ◌≢◌, ℕ, suc, ◌+◌, ◌<◌, true, false, List, [], length, Option, Some, None, slice_get, slice_index, slice_set, unwrap_or, sym, ap, ap₂, ◌∙◌, subst, inl, inr, arith, ◌⊎◌, ◌==◌, if◌then◌else◌}
+use Rattle.std.proofs.Common.{◌≡◌, ◌≢◌, ℕ, suc, ◌+◌, ◌<◌, true, false, [], length, Option, Some, None, slice_get, slice_index, slice_set, unwrap_or, sym, ap, ap₂, ◌∙◌, subst, inl, inr, arith, ◌⊎◌, ◌==◌, if◌then◌else◌}
 use Rattle.std.proofs.lemmas.Option.{get_or_from_slice_get, slice_get_within}
 use Rattle.std.proofs.lemmas.List.{get_or-set_other}
 use Rattle.std.proofs.lemmas.Bool.Decides.{eqb_tells}
@@ -15,10 +15,6 @@ use Rattle.order_rules.proofs.Numbers.{numbers_name}
 use Rattle.order_rules.proofs.Crew.{crew_before}
 use Rattle.order_rules.specs.Holders.{Holders, row, held, with_held}
 use Rattle.order_rules.specs.Laws.{StillFollow, FollowIsCrew}
-
--- a number at a place, by either word
-pub index_is : (xs : List ℕ) (i k : ℕ) → slice_get xs i ≡ Some k → slice_index xs i ≡ k
-index_is xs i k e = get_or_from_slice_get xs i k 0 e
 
 -- the row and the holds of a table once a hart holds something else of a page
 pub row_here : (holders : Holders) (page h : ℕ) (hold : Option Mode) → page < length holders
@@ -57,7 +53,7 @@ still_follow log holders numbers h i page k e kept at is number a b follow q g =
 ]
   where
     now : slice_index (slice_set numbers page (k + 1)) page ≡ k + 1
-    now = index_is (slice_set numbers page (k + 1)) page (k + 1) (set_here numbers page (k + 1) (slice_get_within numbers page k number))
+    now = get_or_from_slice_get (slice_set numbers page (k + 1)) page (k + 1) 0 (set_here numbers page (k + 1) (slice_get_within numbers page k number))
 
     then_held : rules.held log page g (slice_index (slice_set numbers page (k + 1)) page) ≡ (if h == g then holds_then e else rules.held log page g k)
     then_held = ap (rules.held log page g) now ∙ next_held log page g h k e (numbers_name log h i page k e kept at is)
@@ -68,7 +64,7 @@ still_follow log holders numbers h i page k e kept at is number a b follow q g =
         subst (λ z. held (with_held holders page h (holds_then e)) page z ≡ holds_then e) same (held_here holders page h (holds_then e) a b)
         ∙ sym (then_held ∙ ap (λ c. if c then holds_then e else rules.held log page g k) t)
     on_page (inr (f, n)) =
-        held_beside holders page h g (holds_then e) a (λ z. n (sym z)) ∙ follow page g ∙ ap (rules.held log page g) (index_is numbers page k number)
+        held_beside holders page h g (holds_then e) a (λ z. n (sym z)) ∙ follow page g ∙ ap (rules.held log page g) (get_or_from_slice_get numbers page k 0 number)
         ∙ sym (then_held ∙ ap (λ c. if c then holds_then e else rules.held log page g k) f)
 
 pub follow_is_crew : FollowIsCrew

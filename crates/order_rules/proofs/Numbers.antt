@@ -3,7 +3,7 @@ use Rattle.std.proofs.Common.{◌≡◌, ℕ, zero, suc, ◌+◌, ◌<◌, Bool,
 use Rattle.std.proofs.lemmas.Bool.{eq-eqb, or_parts}
 use Rattle.std.specs.List.{list_any, enumerate_from}
 use Rattle.std.specs.Option.{option_or, option_and_then}
-use Rattle.std.proofs.lemmas.Option.{none-some, same_Some}
+use Rattle.std.proofs.lemmas.Option.{none-some, same_Some, slice_get-get_or, unwrap_or-slice_get}
 use Rattle.std.proofs.lemmas.List.Folds.{find-append}
 use Rattle.log_entry.specs.declared.log.Entry.{Entry}
 use Rattle.log_entry.specs.declared.log.Log.{Log}
@@ -14,8 +14,9 @@ use Rattle.order_rules.specs.Orderly.{spots, at_entry, Keeps, o5}
 use Rattle.order_rules.specs.Laws.{NumbersName}
 use Rattle.order_rules.proofs.Least.{none_passes}
 
-pub neither_holds : (a b : Bool) → (a || b) ≡ false → (a ≡ false) × (b ≡ false)
-neither_holds = or_parts
+-- the stream of a hart of the log
+pub stream_there : (log : Log) (h : ℕ) → h < length log.streams → slice_get log.streams h ≡ Some (stream log h)
+stream_there log h l = slice_get-get_or log.streams h [] l ∙ ap Some (sym (unwrap_or-slice_get log.streams h []))
 
 module _ (test : Entry → Bool) where
   abbrev pub of_hart : ℕ × Entry → Bool

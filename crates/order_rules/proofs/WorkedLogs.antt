@@ -1,6 +1,6 @@
 -- What the rules say of logs that were worked out by hand, by computation.
 use Rattle.std.proofs.Common.{refl, inl, inr, ◌∷◌, []}
-use Rattle.order_rules.specs.Worked.{AreBroken, AreHeld, AreJudged}
+use Rattle.order_rules.specs.Worked.{AreBroken, HoldersAreKept, AreJudged}
 
 pub are_broken : AreBroken
 are_broken = record {
@@ -47,7 +47,7 @@ are_broken = record {
   full = refl;
 }
 
-are_held : AreHeld
+are_held : HoldersAreKept
 are_held = record { one = refl; three = refl; given_back = refl }
 
 pub are_judged : AreJudged

@@ -144,7 +144,7 @@ pub record AreBroken : Type 0 where
   pub full : breaks_first full_log ≡ None
 
 -- what each of three harts holds of two pages, once hart 2 has gained page 1 and hart 0 both pages
-pub record AreHeld : Type 0 where
+pub record HoldersAreKept : Type 0 where
   pub one : with_held (nobody 2 3) 1 2 (Some Read) ≡ (None ∷ None ∷ None ∷ []) ∷ (None ∷ None ∷ Some Read ∷ []) ∷ []
   pub three :
       with_held (with_held (with_held (nobody 2 3) 1 2 (Some Read)) 0 0 (Some Write)) 1 0 (Some Read)
@@ -153,7 +153,7 @@ pub record AreHeld : Type 0 where
 
 pub record AreJudged : Type 0 where
   pub broken : AreBroken
-  pub held : AreHeld
+  pub held : HoldersAreKept
   pub smallest : IsOrderly (smallest_log 100 0 1)
   pub race : IsOrderly race_log
   pub twice : IsLeastBreak twice_log 5 1 0

@@ -4,7 +4,7 @@ use Rattle.std.specs.Prelude.{IsTrue}
 use Rattle.std.specs.List.{list_any}
 use Rattle.std.specs.Option.{option_map_or}
 use lib.Pointwise.{pointwise}
-use Rattle.std.proofs.lemmas.Bool.{cases_eq, eqb-true, and_parts, or_parts, leb-false, lt-ltb}
+use Rattle.std.proofs.lemmas.Bool.{cases_eq, eqb-true, not-false, and_parts, or_parts, leb-false, lt-ltb}
 use Rattle.std.proofs.lemmas.Bool.Decides.{eqb_tells}
 use Rattle.std.proofs.lemmas.List.{length-set, length-replicate, get_or-set_other, get_or-replicate}
 use Rattle.std.proofs.lemmas.Option.{same_Some, slice_get_within, get_or_from_slice_get, unwrap_or-slice_get}
@@ -26,7 +26,7 @@ use Rattle.order_rules.proofs.Takings.{took, number_met, met_by, numbers_by, gua
 use Rattle.order_rules.proofs.Crew.{any_below}
 use Rattle.order_rules.proofs.Follow.{still_follow}
 use Rattle.privilege_directory.specs.Directory.{Directory, directory_at_start, clash_of, by_others, yields_of}
-use Rattle.privilege_directory.specs.Laws.{left_by, left_by_all, directory_along, AreTaken, StandsAt, Gives, MayCall, IsNext, AlongOrders, GivesEntries, AllowsEntries}
+use Rattle.privilege_directory.specs.Laws.{left_by, left_by_all, directory_along, AreTaken, StandsAt, IsGiven, MayCall, IsNext, AlongOrders, GivesEntries, AllowsEntries}
 use Rattle.privilege_directory.proofs.Holds.{others_and_one, others_and_own}
 use Rattle.privilege_directory.proofs.Table.{held_of_nobody}
 use Rattle.privilege_directory.proofs.FirstNumber.{none_from}
@@ -275,12 +275,8 @@ same_waits (x ∷ xs) (y ∷ ys) t =
     let first : x ≡ y = (λ i. record { hart = hart i; count = count i }) in
     ap (λ z. z ∷ xs) first ∙ ap (λ zs. y ∷ zs) (same_waits xs ys both.1)
 
-not_false : (b : Bool) → not b ≡ false → b ≡ true
-not_false true e = refl
-not_false false e = absurd (true≢false e)
-
 given : (log : Log) (c : Cursor) (d : Directory) (h i : ℕ) (e : Entry) → Is log c d → Keeps log o7 → entry_at log h i ≡ Some e → guard_is_met c e ≡ true
-    → Gives d h e
+    → IsGiven d h e
 given log c d h i (Gain count page seq mode waits) is kept at met =
     let number = next_number log c d (Gain count page seq mode waits) page seq is.stands refl met in
     let same = get_or_from_slice_get d.numbers page seq 0 number in
@@ -289,7 +285,7 @@ given log c d h i (Gain count page seq mode waits) is kept at met =
     let yields = is.of.yields in
     let due : waits_due log page h seq ≡ by_others h (yields_of d page) =
     ap (waits_due log page h) (sym same) ∙ is.stands.waits page h (omega (arith, low, numbers, yields)) in
-    let named = same_waits waits.items (waits_due log page h seq) (not_false _ (kept_at log (breaks_o7 log) h i (Gain count page seq mode waits) kept at)) in
+    let named = same_waits waits.items (waits_due log page h seq) (not-false _ (kept_at log (breaks_o7 log) h i (Gain count page seq mode waits) kept at)) in
     (same, sym (named ∙ due))
 given log c d h i (Yield count page seq left) is kept at met =
     get_or_from_slice_get d.numbers page seq 0 (next_number log c d (Yield count page seq left) page seq is.stands refl met)

@@ -41,10 +41,10 @@ pub record StandsAt (log : Log) (c : Cursor) (d : Directory) : Type 0 where
   pub waits : (page h : ℕ) → page < length d.yields → waits_due log page h (slice_index d.numbers page) ≡ by_others h (yields_of d page)
 
 -- the call for an entry gives what the entry has: `gain` its number and its waits, `yield_to` its number
-abbrev pub Gives : Directory → ℕ → Entry → Type 0
-Gives d h (Gain count page seq mode waits) = (slice_index d.numbers page ≡ seq) × (by_others h (yields_of d page) ≡ waits.items)
-Gives d h (Yield count page seq left) = slice_index d.numbers page ≡ seq
-Gives d h entry = Unit {0}
+abbrev pub IsGiven : Directory → ℕ → Entry → Type 0
+IsGiven d h (Gain count page seq mode waits) = (slice_index d.numbers page ≡ seq) × (by_others h (yields_of d page) ≡ waits.items)
+IsGiven d h (Yield count page seq left) = slice_index d.numbers page ≡ seq
+IsGiven d h entry = Unit {0}
 
 -- no hold stands against an entry: a Gain is allowed, and a Yield leaves less than is held
 abbrev pub MayCall : Directory → ℕ → Entry → Type 0
@@ -68,7 +68,7 @@ pub record IsNext (log : Log) (order : List (ℕ × ℕ)) (h : ℕ) (e : Entry) 
 -- in a log that keeps O5 and O7, the next entry is what the directory gives
 abbrev pub GivesEntries : Type 0
 GivesEntries =
-    (log : Log) (order : List (ℕ × ℕ)) (h : ℕ) (e : Entry) → Keeps log o5 → Keeps log o7 → IsNext log order h e → Gives (directory_along log order) h e
+    (log : Log) (order : List (ℕ × ℕ)) (h : ℕ) (e : Entry) → Keeps log o5 → Keeps log o7 → IsNext log order h e → IsGiven (directory_along log order) h e
 
 -- in a log that keeps O5 and O6, no hold stands against it
 abbrev pub AllowsEntries : Type 0

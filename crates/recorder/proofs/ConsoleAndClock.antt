@@ -18,17 +18,10 @@ use Rattle.device_board.specs.Recording.{input_of, recorded_input, answers_taken
 use Rattle.log_entry.specs.declared.log.Entry.{Entry}
 use Rattle.log_entry.specs.declared.log.Entry.TheVariants as entries
 use Rattle.log_entry.specs.Parts.{time_of}
-use Rattle.replay_model.specs.Inputs.{console_input, times_from}
+use Rattle.replay_model.specs.Inputs.{console_input, times_from, time_after}
+use Rattle.replay_model.proofs.Times.{times_append, after_append}
 use Rattle.recorder.specs.Running.{Running, polled_at, touched_by}
-use Rattle.recorder.specs.Sources.{Sources, time_after, Gave, Took, Timed, Asks, AsksClock, Accessed, is_time_load}
-
-times_append : (time : ℕ) (xs ys : List ℕ) → times_from time (xs ++ ys) ≡ times_from time xs ++ times_from (time_after time xs) ys
-times_append time [] ys = refl
-times_append time (x ∷ xs) ys = ap (λ l. max x time ∷ l) (times_append (max x time) xs ys)
-
-after_append : (time : ℕ) (xs ys : List ℕ) → time_after time (xs ++ ys) ≡ time_after (time_after time xs) ys
-after_append time [] ys = refl
-after_append time (x ∷ xs) ys = after_append (max x time) xs ys
+use Rattle.recorder.specs.Sources.{Sources, Gave, Took, Timed, Asks, AsksClock, Accessed, is_time_load}
 
 on : {X : Type 0} (a b c u v : List X) → b ≡ a ++ u → c ≡ b ++ v → c ≡ a ++ (u ++ v)
 on a b c u v one two = two ∙ ap (λ x. x ++ v) one ∙ append_assoc a u v

@@ -1,8 +1,9 @@
 -- Each step of the recorder is a recorded item.
-use Rattle.std.proofs.Common.{◌≡◌, ℕ, zero, suc, ◌+◌, ◌%◌, ◌<◌, ◌≤◌, ◌==◌, Bool, false, List, [], ◌∷◌, length, Option, Some, None, find, slice_get, slice_index, slice_set, is_some, nat_lt, refl, sym, ap, ap₂, ◌∙◌, arith, if◌then◌else◌, ◌||◌, not}
+use Rattle.std.proofs.Common.{◌≡◌, ℕ, zero, suc, ◌+◌, ◌%◌, ◌<◌, ◌≤◌, ◌==◌, Bool, false, List, [], ◌∷◌, length, Option, Some, None, find, slice_index, slice_set, is_some, nat_lt, refl, sym, ap, ap₂, ◌∙◌, arith, if◌then◌else◌, ◌||◌, not}
 use Rattle.std.specs.Option.{option_map, option_and_then}
 use Rattle.std.proofs.lemmas.Bool.{eq-eqb}
 use Rattle.std.proofs.lemmas.List.{length_push}
+use Rattle.std.proofs.lemmas.Option.{slice_get-get_or}
 use Rattle.rv_words.specs.declared.shared.Access.{Access}
 use Rattle.rv_words.specs.declared.shared.Input.{Input}
 use Rattle.rv_words.specs.declared.shared.Mode.{Mode}
@@ -47,11 +48,6 @@ set_holder [] p hold = refl
 set_holder (h ∷ hs) zero hold = refl
 set_holder (h ∷ hs) (suc p) hold = ap (λ xs. (h ∷ []) ∷ xs) (set_holder hs p hold)
 
-there : (xs : List ℕ) (i : ℕ) → i < length xs → slice_get xs i ≡ Some (slice_index xs i)
-there [] i l = absurd (omega (arith, l))
-there (x ∷ xs) zero l = refl
-there (x ∷ xs) (suc i) l = there xs i (omega (arith, l))
-
 -- a move
 pub move_recorded : (limit : ℕ) (r : Running) (s : LoneRun) → r.devices.stop ≡ None → Steps r.run s Moved → r.run.count < limit
     → IsPolled r.stream r.run.count → IsRecorded (board unit) limit (recording_of r) Move (recording_of (record r { run = s }))
@@ -74,7 +70,7 @@ gain_recorded limit r page mode waits running less polled wants inside numbered 
   running = ap is_some running;
   allowed = (refl, none, same_want r ∙ wants, (let l = holders_size r.run.held in omega (arith, l, inside)), less, polled);
   goes = ap (λ b. if b then CanGo else Holds)
-      (ap (is_number (slice_index r.numbers page)) (there r.numbers page numbered) ∙ eq-eqb (slice_index r.numbers page) (slice_index r.numbers page) refl);
+      (ap (is_number (slice_index r.numbers page)) (slice_get-get_or r.numbers page 0 numbered) ∙ eq-eqb (slice_index r.numbers page) (slice_index r.numbers page) refl);
   made = ap₂ (λ hs n. Some
       (record {
         flat = (recording_of r).at.flat;

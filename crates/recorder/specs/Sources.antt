@@ -1,5 +1,5 @@
 -- What the recorder asked of its sources, console and clock, and what these told it.
-use Rattle.std.specs.Prelude.{ℕ, ◌≡◌, max, Bool, true, false, List, [], ◌∷◌, ◌++◌, map, filter_map, IsTrue, Option, Some, None, if◌then◌else◌}
+use Rattle.std.specs.Prelude.{ℕ, ◌≡◌, Bool, true, false, List, [], ◌∷◌, ◌++◌, map, filter_map, IsTrue, Option, Some, None, if◌then◌else◌}
 use Rattle.rv_words.specs.Addresses.{device_word}
 use Rattle.rv_words.specs.declared.shared.Access.{Access}
 use Rattle.rv_words.specs.declared.shared.Input.{Input}
@@ -12,7 +12,7 @@ use Rattle.device_board.specs.State.{Devices}
 use Rattle.device_board.specs.Recording.{input_of, recorded_input, answers_taken, bytes_given, uses_console}
 use Rattle.log_entry.specs.declared.log.Entry.{Entry}
 use Rattle.log_entry.specs.Parts.{time_of, is_some_and}
-use Rattle.replay_model.specs.Inputs.{console_input, times_from}
+use Rattle.replay_model.specs.Inputs.{console_input, times_from, time_after}
 use Rattle.recorder.specs.Running.{Running}
 
 -- what is seen of a console and a clock
@@ -22,11 +22,6 @@ pub record Sources : Type 0 where
 
 abbrev pub sources : SeenConsole → SeenClock → Sources
 sources console clock = record { console = console; clock = clock }
-
--- the time that answers of a clock come to
-abbrev pub time_after : ℕ → List ℕ → ℕ
-time_after time [] = time
-time_after time (answer ∷ answers) = time_after (max answer time) answers
 
 -- the entries made between two states have as inputs what the console answered
 abbrev pub Gave : List Asked → List Asked → Running → Running → Type 0

@@ -4,7 +4,7 @@ use Rattle.std.proofs.Common.{find, Option, Some, None, slice_set, slice_index, 
 use Rattle.std.proofs.Common.{true≢false}
 use Rattle.std.specs.Option.{option_and_then}
 use Rattle.std.proofs.lemmas.Option.{none-some, same_Some, get_or_from_slice_get, slice_get_past}
-use Rattle.std.proofs.lemmas.Bool.{eqb-true}
+use Rattle.std.proofs.lemmas.Bool.{eqb-true, or_parts}
 use Rattle.std.proofs.lemmas.Bool.Decides.{eqb_tells, leb_tells}
 use Rattle.std.proofs.lemmas.List.{get_or-set_other, length-replicate, length-set}
 use Rattle.orders_law.proofs.Below.{none_below}
@@ -22,7 +22,7 @@ use Rattle.order_rules.specs.Cursor.{Cursor, first_left, guard_is_met, taken, ta
 use Rattle.order_rules.specs.Rules.{breaks_o1}
 use Rattle.order_rules.specs.Orderly.{Keeps, o1, o5, o8, IsOrderly}
 use Rattle.order_rules.proofs.Least.{none_passes}
-use Rattle.order_rules.proofs.Numbers.{in_stream, below_length, neither_holds}
+use Rattle.order_rules.proofs.Numbers.{in_stream, below_length}
 use Rattle.order_rules.proofs.Takings.{Any, took, met_by, numbers_by, ordinal_by, guard_is, taken_is, takes, takings_commute, takings_last, no_more_harts}
 use Rattle.flat_machine.specs.declared.act.Act.TheVariants.{Run}
 use Rattle.replay_model.specs.Flat.{Flat}
@@ -125,11 +125,11 @@ end_is_last log h i e kept at end =
     let x : Placed = record { hart = h; place = i; entry = e } in
     let right = none_passes log (o1 log) (h, i) kept (stream log h, in_stream log h i e at, below_length (stream log h) i e at) in
     let here : breaks_o1 log x ≡ false = sym (ap (λ o. is_some_and o (λ z. breaks_o1 log (record { hart = h; place = i; entry = z }))) at)
-    ∙ (neither_holds _ _ right).0 in
-    let both = (neither_holds _ _ here).1 in
+    ∙ (or_parts _ _ right).0 in
+    let both = (or_parts _ _ here).1 in
     let open_up : (not (i + 1 == length (stream log h)) || nat_lt log.limit (count_of e)) ≡ false =
     sym (ap (λ b. b && (not (i + 1 == length (stream log h)) || nat_lt log.limit (count_of e))) end) ∙ both in
-    by (i + 1 == length (stream log h)) refl (neither_holds _ _ open_up).0
+    by (i + 1 == length (stream log h)) refl (or_parts _ _ open_up).0
   where
     by : (b : Bool) → (i + 1 == length (stream log h)) ≡ b → not b ≡ false → i + 1 ≡ length (stream log h)
     by true t f = eqb-true (i + 1) (length (stream log h)) t

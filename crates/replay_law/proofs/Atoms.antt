@@ -23,7 +23,7 @@ use Rattle.run_model.specs.Run.{Run, IsAbove, NotWants, hold_of, move_held, data
 use Rattle.run_model.specs.Agreement.{Agrees}
 use Rattle.run_model.proofs.Laws.{sees_move, sees_held, data_not_wanted, data_lie_above, exclusive_is_held}
 use Rattle.replay_law.specs.Atomics.{Atomic, atomic_at, value_of, on_word, next_atomic}
-use Rattle.replay_law.proofs.GoodStates.{number_there}
+use Rattle.order_rules.proofs.Takings.{number_met}
 use Rattle.replay_law.proofs.Views.{Shape, Sound, view, view_agrees}
 use Rattle.replay_law.proofs.Deeds.{Done, not_wants}
 use Rattle.replay_law.proofs.Boards.{view_stays, index_of, same_where}
@@ -81,7 +81,7 @@ has_some_where false x e = e
 
 on_word_is : (word h count : ℕ) (e : Effect) (loaded : ℕ) → has_some (on_word word h count e loaded) ≡ true → atomic_at e ≡ Some word
 on_word_is word h count e loaded some =
-    number_there word (atomic_at e) (has_some_where (is_number word (atomic_at e))
+    number_met word (atomic_at e) (has_some_where (is_number word (atomic_at e))
     (record { hart = h; count = count; stored = value_of (written e loaded) }) some)
 
 module _ (shape : Shape) where

@@ -39,7 +39,7 @@ use Rattle.std.proofs.lemmas.Option.{slice_get_within}
 use Rattle.run_model.specs.Laws.{IsMoved}
 use Rattle.run_model.proofs.Laws.{ahead_agrees, sees_move, moves_agree, keeps_on_move, stays_on_board, placed_agrees, counted_agrees}
 use Rattle.replay_law.proofs.Local.{actor, HasPages}
-use Rattle.replay_law.proofs.Verdicts.{nothing}
+use Rattle.shared_types.proofs.Lists.{is_nothing}
 use Rattle.replay_law.proofs.Views.{Shape, Sound, on_board}
 
 abbrev pub touched_run : Run → ℕ → Devices × ℕ → Run × Devices
@@ -112,7 +112,7 @@ pub deed_of : (r : Run) (s : Replay FlatState) (a : Act) (t : FlatState) → Agr
 deed_of r s (act.Run h) t agrees has did =
     let x = bound_to (λ x. ran s.flat h x (next_move x s.flat.memory)) (slice_get s.flat.harts h) t did in
     let c = lists.chosen (is_some (access_of (need_of (next_move x.0 s.flat.memory)))) _ t x.2 in
-    let access : hart_access s.flat h ≡ None = ap (option_and_then (λ y. access_of (need_of (next_move y s.flat.memory)))) x.1 ∙ nothing _ c.0 in
+    let access : hart_access s.flat h ≡ None = ap (option_and_then (λ y. access_of (need_of (next_move y s.flat.memory)))) x.1 ∙ is_nothing _ c.0 in
     let asks : Asks None None (ahead_of r) =
     subst (λ o. Asks None o (ahead_of r)) access (subst (λ w. Asks w (hart_access s.flat h) (ahead_of r)) has (ahead_agrees r h s agrees)) in
     (free_where (ahead_of r) asks, ((moved_by r (move_held r), s.flat.devices), refl))

@@ -2,7 +2,7 @@
 use Rattle.std.proofs.Common.{◌≡◌, inl, inr, ℕ, ◌+◌, ◌<◌, ◌==◌, ◌&&◌, nat_le, Bool, true, false, length, Option, Some, None, slice_get, slice_set}
 use Rattle.std.proofs.Common.{slice_index, refl, sym, ap, ap₂, ◌∙◌, subst, arith, if◌then◌else◌, true≢false}
 use Rattle.std.proofs.lemmas.Option.{none-some, same_Some}
-use Rattle.std.proofs.lemmas.Bool.{cases_eq, eqb-true, eq-eqb}
+use Rattle.std.proofs.lemmas.Bool.{cases_eq, or_parts, eq-eqb}
 use Rattle.std.proofs.lemmas.List.{length-set}
 use Rattle.orders_law.specs.Orders.{Lasts, Commutes}
 use Rattle.rv_words.specs.declared.shared.Mode.{Mode}
@@ -18,7 +18,8 @@ use Rattle.order_rules.specs.Rules as rules
 use Rattle.order_rules.specs.Rules.{breaks_o6}
 use Rattle.order_rules.specs.Orderly.{Keeps, o5, o6, o8}
 use Rattle.order_rules.proofs.Least.{none_passes}
-use Rattle.order_rules.proofs.Numbers.{in_stream, below_length, neither_holds}
+use Rattle.order_rules.proofs.Numbers.{in_stream, below_length}
+use Rattle.order_rules.proofs.Takings.{number_met}
 use Rattle.flat_machine.specs.declared.act.Act.{Act}
 use Rattle.flat_machine.specs.declared.act.Act.TheVariants.{Lose}
 use Rattle.replay_model.specs.Flat.{Flat}
@@ -34,10 +35,6 @@ use Rattle.replay_law.proofs.Cursors.{guard_of, IsLeft}
 use Rattle.replay_law.proofs.Tables.{held_stays, table_size, rows_size}
 use Rattle.replay_law.proofs.Verdicts.{ActIs, guard_met, act_is}
 use Rattle.replay_law.proofs.Pairs.{is_left, steps_commute}
-
-pub number_there : (k : ℕ) (o : Option ℕ) → is_number k o ≡ true → o ≡ Some k
-number_there k None e = absurd (true≢false (sym e))
-number_there k (Some m) e = ap Some (eqb-true m k e)
 
 at_most_write : (mode : Mode) → nat_le (strength (Some mode)) (strength (Some Write)) ≡ true
 at_most_write Read = refl
@@ -57,7 +54,7 @@ no_gain_of_write log h i count page seq mode waits kept at held =
           (entries.Gain count page seq mode waits) at,
     ) in
     let here : breaks_o6 log x ≡ false = sym (ap (λ o. is_some_and o (λ z. breaks_o6 log (record { hart = h; place = i; entry = z }))) at) ∙ right in
-    let gains : nat_le (strength (Some mode)) (strength (rules.held log page h seq)) ≡ false = (neither_holds _ _ here).0 in
+    let gains : nat_le (strength (Some mode)) (strength (rules.held log page h seq)) ≡ false = (or_parts _ _ here).0 in
     true≢false (sym (at_most_write mode) ∙ ap (λ m. nat_le (strength (Some mode)) (strength m)) (sym held) ∙ gains)
 
 module _ {S V : Type 0} (flat : Flat S V) (Sized : S → Type 0) (harts pages : ℕ) (local : IsLocal flat Sized harts pages) where
@@ -127,7 +124,7 @@ module _ {S V : Type 0} (flat : Flat S V) (Sized : S → Type 0) (harts pages : 
         → (flat.reserved_page f g ≡ Some page → holds_then e ≡ Some Write)
         → IsGood (record { flat = f; cursor = c; holders = with_held s.holders page g (holds_then e) })
     page_lasts s g page seq e f good sound left is guard c numbers keeps =
-        let number = number_there seq (slice_get s.cursor.numbers page) guard in
+        let number = number_met seq (slice_get s.cursor.numbers page) guard in
         let l : page < pages = (let w = slice_get_within s.cursor.numbers page seq number in let k = good.numbers in omega (arith, w, k)) in
         let m : g < harts =
         (let w = slice_get_within log.streams g (stream log g) (in_stream log g (slice_index s.cursor.places g) e left) in omega (arith, w, harts_are)) in
@@ -156,7 +153,7 @@ module _ {S V : Type 0} (flat : Flat S V) (Sized : S → Type 0) (harts pages : 
     gain_keeps s g count page seq mode waits f good left guard same is =
         let holds : held s.holders page g ≡ Some Write = good.sound.crew.reservations g page (ap (λ z. flat.reserved_page z g) same ∙ is) in
         let number : slice_index s.cursor.numbers page ≡ seq =
-        get_or_from_slice_get s.cursor.numbers page seq 0 (number_there seq (slice_get s.cursor.numbers page) guard) in
+        get_or_from_slice_get s.cursor.numbers page seq 0 (number_met seq (slice_get s.cursor.numbers page) guard) in
         absurd (no_gain_of_write log g (slice_index s.cursor.places g) count page seq mode waits crew_right left
         (ap (rules.held log page g) (sym number) ∙ sym (good.follow page g) ∙ holds))
 

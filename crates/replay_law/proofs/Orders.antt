@@ -128,14 +128,14 @@ stories_agree {V} h made other same =
     ∙ sym (kept (λ (m : ℕ × Option V). if m.0 == h then m.1 else None) (λ (m : ℕ × Option V). m.0 == h) none other)
 
 -- where an order leads the state is good
-reached : (log : Log) (image : Image) (is : IsReplayable log image) (s t : Replay FlatState) (made : List (ℕ × Option (List Step))) → Good log image is s
+pub good_along : (log : Log) (image : Image) (is : IsReplayable log image) (s t : Replay FlatState) (made : List (ℕ × Option (List Step))) → Good log image is s
     → Leads (step (board (unit_of log)) log) s made t → Good log image is t
-reached log image is s t [] good leads = subst (Good log image is) leads good
-reached log image is s t (x ∷ made) good leads = reached log image is leads.0 t made (lasts log image is s leads.0 x.1 x.0 good leads.1) leads.2
+good_along log image is s t [] good leads = subst (Good log image is) leads good
+good_along log image is s t (x ∷ made) good leads = good_along log image is leads.0 t made (lasts log image is s leads.0 x.1 x.0 good leads.1) leads.2
 
 pub items_commute : ItemsCommute
 items_commute log image order s a b e f g h is obeys n did_g did_h =
-    commutes log image is s a b e f g h (reached log image is (first_replay log image) s obeys.0 (good_first log image is) obeys.2) n did_g did_h
+    commutes log image is s a b e f g h (good_along log image is (first_replay log image) s obeys.0 (good_first log image is) obeys.2) n did_g did_h
 
 -- a hart's share of an order
 share_is : {V : Type 0} (h : ℕ) (made : List (ℕ × V)) → length (filter (λ g. g == h) (map (λ m. m.0) made)) ≡ length (filter (is_of h) made)

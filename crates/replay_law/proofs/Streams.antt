@@ -1,8 +1,8 @@
 -- In an orderly log each stream goes on to its End, at counts that don't fall and that rise behind a Touch.
-use Rattle.std.proofs.Common.{◌≡◌, ℕ, ◌+◌, ◌-◌, ◌<◌, ◌≤◌, ◌==◌, ◌&&◌, not, nat_lt, nat_le, Bool, true, false, List, [], ◌∷◌, length, Some, None}
+use Rattle.std.proofs.Common.{◌≡◌, ℕ, ◌+◌, ◌-◌, ◌<◌, ◌≤◌, ◌==◌, ◌&&◌, not, nat_lt, nat_le, true, false, List, [], ◌∷◌, length, Some, None}
 use Rattle.std.proofs.Common.{slice_get, true≢false, refl, sym, ap, ◌∙◌, inl, inr, arith, if◌then◌else◌}
-use Rattle.std.proofs.lemmas.Bool.{cases_lt, ltb-false, leb-false, eq-eqb, ne_eqb}
-use Rattle.std.proofs.lemmas.Option.{slice_get-get_or, unwrap_or-slice_get}
+use Rattle.std.proofs.lemmas.Bool.{cases_lt, not-false, or_parts, ltb-false, leb-false, eq-eqb, ne_eqb}
+use Rattle.std.proofs.lemmas.Option.{slice_get-get_or}
 use Rattle.log_entry.specs.declared.log.Entry.{Entry}
 use Rattle.log_entry.specs.declared.log.Log.{Log}
 use Rattle.log_entry.specs.Parts.{count_of, is_end, is_touch, is_some_and}
@@ -10,15 +10,8 @@ use Rattle.order_rules.specs.Places.{Placed, stream, entry_at, previous}
 use Rattle.order_rules.specs.Rules.{breaks_o1, breaks_o4, last_of}
 use Rattle.order_rules.specs.Orderly.{Keeps, o1, o4}
 use Rattle.order_rules.proofs.Least.{none_passes}
-use Rattle.order_rules.proofs.Numbers.{in_stream, below_length, neither_holds}
+use Rattle.order_rules.proofs.Numbers.{in_stream, below_length, stream_there}
 use Rattle.std.proofs.lemmas.Option.{slice_get_within}
-
-stream_there : (log : Log) (h : ℕ) → h < length log.streams → slice_get log.streams h ≡ Some (stream log h)
-stream_there log h l = slice_get-get_or log.streams h [] l ∙ ap Some (sym (unwrap_or-slice_get log.streams h []))
-
-pub not_not : (b : Bool) → not b ≡ false → b ≡ true
-not_not true e = refl
-not_not false e = absurd (true≢false e)
 
 module _ (log : Log) (rises : Keeps log o1) where
   -- the last entry of a stream is an End
@@ -27,8 +20,8 @@ module _ (log : Log) (rises : Keeps log o1) where
       let s = stream log h in
       let right = none_passes log (o1 log) (h, length (stream log h)) rises (stream log h, stream_there log h l, omega arith) in
       let here : ((length (stream log h) == length (stream log h)) && not (is_some_and (last_of (stream log h)) is_end)) ≡ false =
-      (neither_holds _ _ right).1 in
-      not_not (is_some_and (last_of (stream log h)) is_end) (sym
+      (or_parts _ _ right).1 in
+      not-false (is_some_and (last_of (stream log h)) is_end) (sym
       (ap (λ b. b && not (is_some_and (last_of (stream log h)) is_end)) (eq-eqb (length (stream log h)) (length (stream log h)) refl)) ∙ here)
 
   pub first_there : (h : ℕ) → h < length log.streams → (e : Entry) × (entry_at log h 0 ≡ Some e)
@@ -62,9 +55,9 @@ module _ (log : Log) (rises : Keeps log o1) where
       let x : Placed = record { hart = h; place = i + 1; entry = f } in
       let right = none_passes log (o1 log) (h, i + 1) rises (stream log h, in_stream log h i e at, below_length (stream log h) (i + 1) f then_at) in
       let here : breaks_o1 log x ≡ false = sym (ap (λ o. is_some_and o (λ z. breaks_o1 log (record { hart = h; place = i + 1; entry = z }))) then_at)
-      ∙ (neither_holds _ _ right).0 in
+      ∙ (or_parts _ _ right).0 in
       let falls : nat_lt (count_of f) (count_of e) ≡ false = sym (ap (λ o. is_some_and o (λ p. nat_lt (count_of f) (count_of p))) (before_is h i e f at))
-      ∙ (neither_holds _ _ here).0 in
+      ∙ (or_parts _ _ here).0 in
       ltb-false (count_of f) (count_of e) falls
 
   -- and more behind a Touch

@@ -2,7 +2,7 @@
 use Rattle.std.proofs.Common.{◌≡◌, ℕ, ◌+◌, ◌<◌, ◌≤◌, ◌==◌, ◌||◌, not, nat_lt, Bool, true, false, cond, List, [], ◌∷◌, length, Option, Some, None}
 use Rattle.std.proofs.Common.{is_some, slice_get, unwrap_or, true≢false, refl, sym, ap, ap₂, ◌∙◌, subst, arith, if◌then◌else◌}
 use Rattle.std.specs.Option.{option_map, option_and_then}
-use Rattle.std.proofs.lemmas.Bool.{eqb-true, le-ltb}
+use Rattle.std.proofs.lemmas.Bool.{eqb-true, le-ltb, not-false}
 use Rattle.std.proofs.lemmas.Option.{same_Some, slice_get-get_or}
 use Rattle.rv_hart.specs.State.{Hart}
 use Rattle.rv_hart.specs.Moves.{hart_at_start, need_of}
@@ -34,7 +34,6 @@ use Rattle.replay_law.proofs.Verdicts.{ActIs, act_is, passed, judge, met, guard_
 use Rattle.replay_law.proofs.Views.{Sound, shape_of}
 use Rattle.replay_law.proofs.Deeds.{chosen, touched_run, polled_run, answered}
 use Rattle.replay_law.proofs.Boards.{made_of, calm}
-use Rattle.replay_law.proofs.Streams.{not_not}
 use Rattle.replay_law.proofs.Times.{not_before, time_after, touched_times}
 use Rattle.replay_law.proofs.Progress.{Going, going_first, going_lasts, makes_means}
 
@@ -174,7 +173,7 @@ module _ (log : Log) (image : Image) (is : IsReplayable log image) where
       let o : Option (Devices × ℕ) = option_and_then (λ access. touched s.flat.devices access input) (access_of (need_of (next_move x s.flat.memory))) in
       let suits : is_some (option_and_then (λ access. touched s.flat.devices access input) (access_of (need_of (next_move x s.flat.memory)))) ≡ true =
       sym (ap (λ z. is_some (option_and_then (λ access. touched s.flat.devices access input)
-      (option_and_then (λ y. access_of (need_of (next_move y s.flat.memory))) z))) at) ∙ not_not ((board (unit_of log)).suits s.flat h input) three.0 in
+      (option_and_then (λ y. access_of (need_of (next_move y s.flat.memory))) z))) at) ∙ not-false ((board (unit_of log)).suits s.flat h input) three.0 in
       let found = is_there (option_and_then (λ access. touched s.flat.devices access input) (access_of (need_of (next_move x s.flat.memory)))) suits in (
         tt,
         (

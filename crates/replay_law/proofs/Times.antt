@@ -3,7 +3,7 @@ use Rattle.std.proofs.Common.{◌≡◌, ℕ, suc, ◌+◌, ◌≤◌, ◌&&◌,
 use Rattle.std.proofs.Common.{Option, Some, None, slice_get, unwrap_or, refl, sym, ap, ap₂, ◌∙◌, subst, arith}
 use Rattle.std.specs.List.{list_all, enumerate_from}
 use Rattle.std.specs.Option.{option_map, option_and_then}
-use Rattle.std.proofs.lemmas.Bool.{ltb-false}
+use Rattle.std.proofs.lemmas.Bool.{ltb-false, or_parts}
 use Rattle.std.proofs.lemmas.List.Folds.{list_all-append}
 use Rattle.rv_words.specs.Addresses.{device_word}
 use Rattle.rv_words.specs.declared.shared.Access.{Access}
@@ -12,7 +12,7 @@ use Rattle.rv_words.specs.declared.shared.Input.TheVariants.{Nothing, Empty, Byt
 use Rattle.rv_words.specs.declared.shared.DeviceWord.{DeviceWord}
 use Rattle.rv_words.specs.declared.shared.DeviceWord.TheVariants.{Msip, CompareLow, CompareHigh, TimeLow, TimeHigh, Rx, Tx, Stop}
 use Rattle.device_board.specs.State.{Devices, with_time}
-use Rattle.device_board.specs.Accesses.{loaded, stored, word_touched, touched}
+use Rattle.device_board.specs.Accesses.{loaded, word_touched, touched}
 use Rattle.log_entry.specs.declared.log.Entry.{Entry}
 use Rattle.log_entry.specs.declared.log.Log.{Log}
 use Rattle.log_entry.specs.Parts.{ordinal_of, time_of, time_of_input, is_some_and}
@@ -20,8 +20,9 @@ use Rattle.order_rules.specs.Places.{Placed, stream, entry_at, by_hart, is_numbe
 use Rattle.order_rules.specs.Rules.{is_misnumbered, with_ordinal, time_before, time_falls, ordinals_are_right, breaks_o8}
 use Rattle.order_rules.specs.Orderly.{Keeps, o8}
 use Rattle.order_rules.proofs.Least.{none_passes}
-use Rattle.order_rules.proofs.Numbers.{in_stream, below_length, neither_holds}
+use Rattle.order_rules.proofs.Numbers.{in_stream, below_length}
 use Rattle.order_rules.proofs.Takings.{ordinals_name}
+use Rattle.replay_model.proofs.Times.{store_on}
 
 abbrev at_place : ℕ → ℕ → Entry → Placed
 at_place h i e = record { hart = h; place = i; entry = e }
@@ -80,7 +81,7 @@ module _ (log : Log) (times_right : Keeps log o8) where
   all_right = all_in_rows (λ x. not (is_misnumbered ordinal_of log x)) 0 log.streams (λ h i s e there at.
       let start : 0 + h ≡ h = omega arith in
       subst (λ k. not (is_misnumbered ordinal_of log (at_place k i e)) ≡ true) (sym start)
-      (ap not (neither_holds _ _ (right_at h i e (ap (λ o. slice_get (unwrap_or o []) i) there ∙ at))).0))
+      (ap not (or_parts _ _ (right_at h i e (ap (λ o. slice_get (unwrap_or o []) i) there ∙ at))).0))
 
   -- the entry with an ordinal is the one that stands there
   ordinal_there : (h i k : ℕ) (e : Entry) → entry_at log h i ≡ Some e → ordinal_of e ≡ Some k → with_ordinal log k ≡ Some e
@@ -91,7 +92,7 @@ module _ (log : Log) (times_right : Keeps log o8) where
   -- the time of an entry isn't below the time before it
   pub not_before : (h i k time : ℕ) (e : Entry) → entry_at log h i ≡ Some e → ordinal_of e ≡ Some k → time_of e ≡ Some time → time_before log k ≤ time
   not_before h i k time e at ordinal is =
-      let right = (neither_holds _ _ (right_at h i e at)).1 in
+      let right = (or_parts _ _ (right_at h i e at)).1 in
       let falls : time_falls log e ≡ false = sym (ap (λ b. b && time_falls log e) all_right) ∙ right in
       let less : nat_lt time (time_before log k) ≡ false =
       sym (ap₂ (λ o p. is_some_and o (λ t. is_some_and p (λ n. nat_lt t (time_before log n)))) is ordinal) ∙ falls in
@@ -147,19 +148,9 @@ loaded_times d Stop Empty = tt
 loaded_times d Stop (Byte b) = tt
 loaded_times d Stop (Time t) = tt
 
-stored_times : (d : Devices) (word : DeviceWord) (v : ℕ) → (stored d word v).mtime ≡ d.mtime
-stored_times d (Msip h) v = refl
-stored_times d (CompareLow h) v = refl
-stored_times d (CompareHigh h) v = refl
-stored_times d TimeLow v = refl
-stored_times d TimeHigh v = refl
-stored_times d Rx v = refl
-stored_times d Tx v = refl
-stored_times d Stop v = refl
-
 word_times : (d : Devices) (word : DeviceWord) (store : Option ℕ) (input : Input) → Times d input (word_touched d word store input)
 word_times d word None input = loaded_times d word input
-word_times d word (Some v) Nothing = stored_times d word v
+word_times d word (Some v) Nothing = store_on d word v
 word_times d word (Some v) Empty = tt
 word_times d word (Some v) (Byte b) = tt
 word_times d word (Some v) (Time t) = tt

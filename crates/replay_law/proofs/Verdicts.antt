@@ -16,7 +16,7 @@ use Rattle.replay_model.specs.Flat.{Flat}
 use Rattle.order_rules.specs.Holders.{held}
 use Rattle.replay_model.specs.State.{Replay, want}
 use Rattle.replay_model.specs.Items.{Item, Ended, Move, Makes, Verdict, Holds, CanGo, HasDiverged, judged, tests, verdict_on}
-use Rattle.shared_types.proofs.Lists.{find_same}
+use Rattle.shared_types.proofs.Lists.{find_same, is_nothing}
 use Rattle.replay_law.proofs.Local.{HasPages, HasDevices, actor}
 use Rattle.replay_law.proofs.Steps.{is_lost, act_with, act_of}
 use Rattle.replay_law.proofs.Cursors.{guard_of}
@@ -33,10 +33,6 @@ abbrev pub needs_devices : Item → Bool
 needs_devices (Makes (entries.Touch count ord input)) = true
 needs_devices (Makes (entries.Poll count ord time bits)) = true
 needs_devices item = false
-
-pub nothing : {X : Type 0} (o : Option X) → is_some o ≡ false → o ≡ None
-nothing None e = refl
-nothing (Some x) e = absurd (true≢false e)
 
 pub met : (b : Bool) (v : Verdict) → (if b then v else Holds) ≡ CanGo → (b ≡ true) × (v ≡ CanGo)
 met true v e = (refl, e)
@@ -72,7 +68,7 @@ module _ {S V : Type 0} (flat : Flat S V) where
   move_stays s a h finds go =
       let one = passed 1 (is_some (want flat s h)) ((2, flat.is_at_device s.flat h) ∷ []) go in
       let two = passed 2 (flat.is_at_device s.flat h) [] one.1 in
-      let none = nothing (want flat s h) one.0 in
+      let none = is_nothing (want flat s h) one.0 in
       passes 1 (is_some (want flat a h)) ((2, flat.is_at_device a.flat h) ∷ []) (ap is_some (want_stays s a h finds none))
       (passes 2 (flat.is_at_device a.flat h) [] (finds.at_device none ∙ two.0) refl)
 
@@ -84,7 +80,7 @@ module _ {S V : Type 0} (flat : Flat S V) where
       let two = passed 3 (not (flat.is_at_device s.flat h)) ((4, not (flat.suits s.flat h input)) ∷ (6, flat.is_stopped s.flat) ∷ []) one.1 in
       let three = passed 4 (not (flat.suits s.flat h input)) ((6, flat.is_stopped s.flat) ∷ []) two.1 in
       let four = passed 6 (flat.is_stopped s.flat) [] three.1 in
-      let none = nothing (want flat s h) one.0 in
+      let none = is_nothing (want flat s h) one.0 in
       passes 1 (is_some (want flat a h)) ((3, not (flat.is_at_device a.flat h)) ∷ (4, not (flat.suits a.flat h input)) ∷ (6, flat.is_stopped a.flat) ∷ [])
       (ap is_some (want_stays s a h finds none))
       (passes 3 (not (flat.is_at_device a.flat h)) ((4, not (flat.suits a.flat h input)) ∷ (6, flat.is_stopped a.flat) ∷ [])
@@ -153,7 +149,7 @@ module _ {S V : Type 0} (flat : Flat S V) where
       subst (ActIs s h) (same_Some _ _ e) (record {
         by = refl;
         has =
-            nothing (want flat s h) (passed 1 (is_some (want flat s h)) ((2, flat.is_at_device s.flat h) ∷ []) go).0;
+            is_nothing (want flat s h) (passed 1 (is_some (want flat s h)) ((2, flat.is_at_device s.flat h) ∷ []) go).0;
       })
   act_is s h (Makes (entries.Gain count page seq mode waits)) act go e = absurd (none-some _ e)
   act_is s h (Makes (entries.Yield count page seq left)) act go e = yields s h (is_lost flat s h (Makes (entries.Yield count page seq left))) act e
@@ -161,7 +157,7 @@ module _ {S V : Type 0} (flat : Flat S V) where
   act_is s h (Makes (entries.Touch count ord input)) act go e =
       subst (ActIs s h) (same_Some _ _ e) (record {
         by = refl;
-        has = nothing (want flat s h) (passed 1 (is_some (want flat s h))
+        has = is_nothing (want flat s h) (passed 1 (is_some (want flat s h))
             ((3, not (flat.is_at_device s.flat h)) ∷ (4, not (flat.suits s.flat h input)) ∷ (6, flat.is_stopped s.flat) ∷ [])
             (met (ord == s.cursor.ordinal) (judge (tests flat s h (Makes (entries.Touch count ord input)))) go).1).0;
       })

@@ -70,9 +70,6 @@ held_inside holders page h some = elim (cases_lt page (length holders)) [
   | inr m ↦ absurd (true≢false (sym some ∙ ap is_some (beyond_table holders page h m)))
 ]
 
-index_get : (xs : List ℕ) (i : ℕ) → i < length xs → slice_get xs i ≡ Some (slice_index xs i)
-index_get xs i l = slice_get-get_or xs i 0 l
-
 pub on_board : (n p : ℕ) (xs : List Hart) (h : ℕ) (x : Hart) → All (OnBoard n p) xs → slice_get xs h ≡ Some x → OnBoard n p x
 on_board n p xs h x all at =
     let l = slice_get_within xs h x at in
@@ -123,7 +120,7 @@ module _ (shape : Shape) where
         table = sound.table ∙ sym number;
         rows = λ page l. sound.rows page (let t = sound.table in omega (arith, l, t)) ∙ sym sound.sized.harts_size;
         hart = at;
-        count = index_get s.flat.counts h (let w = slice_get_within s.flat.harts h x at in let c = sound.sized.counts_size in omega (arith, w, c));
+        count = slice_get-get_or s.flat.counts h 0 (let w = slice_get_within s.flat.harts h x at in let c = sound.sized.counts_size in omega (arith, w, c));
         modes = λ page. view_holds shape s h x page sound.table;
         bytes = λ page some. view_bytes s page sound (
             let i = held_inside s.holders page h (subst IsSome (sym (view_holds shape s h x page sound.table)) some) in

@@ -28,6 +28,11 @@ abbrev pub times_from : ℕ → List ℕ → List ℕ
 times_from time [] = []
 times_from time (answer ∷ answers) = max answer time ∷ times_from (max answer time) answers
 
+-- the time that the answers come to
+abbrev pub time_after : ℕ → List ℕ → ℕ
+time_after time [] = time
+time_after time (answer ∷ answers) = time_after (max answer time) answers
+
 -- a log that leads to a flat state agrees with what console and clock answered, and with the bytes that the console took
 pub record Agree {S V : Type 0} (flat : Flat S V) (log : Log) (end : S) (asked : List Asked) (times : List ℕ) (took : List ℕ) : Type 0 where
   pub console : map input_of asked ≡ filter_map console_input (by_ordinal log)

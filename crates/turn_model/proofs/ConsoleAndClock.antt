@@ -20,7 +20,8 @@ use Rattle.log_entry.specs.Parts.{ordinal_of, time_of, time_of_input, is_touch}
 use Rattle.flat_machine.specs.declared.act.Act.TheVariants as acts
 use Rattle.order_rules.specs.Cursor.{Cursor}
 use Rattle.order_rules.proofs.Takings.{ordinal_by}
-use Rattle.replay_model.specs.Inputs.{console_input, times_from}
+use Rattle.replay_model.specs.Inputs.{console_input, times_from, time_after}
+use Rattle.replay_model.proofs.Times.{times_append, after_append}
 use Rattle.crew_recording.specs.Recording.{Recording}
 use Rattle.crew_recording.proofs.Numbers.{pushed}
 use Rattle.turn_model.specs.Recordable.{Recordable}
@@ -33,19 +34,6 @@ use Rattle.turn_model.proofs.Steps.{Sound}
 use Rattle.turn_model.proofs.StepInvariants.{Preserves}
 use Rattle.turn_model.proofs.Entries.{Entered, after_entry, did_act, after_runs, Committed}
 use Rattle.turn_model.proofs.Ordinals.{in_order, in_order_still, in_order_more}
-
--- the time behind answers of a clock
-abbrev time_after : ℕ → List ℕ → ℕ
-time_after time [] = time
-time_after time (answer ∷ answers) = time_after (max answer time) answers
-
-times_append : (time : ℕ) (xs ys : List ℕ) → times_from time (xs ++ ys) ≡ times_from time xs ++ times_from (time_after time xs) ys
-times_append time [] ys = refl
-times_append time (x ∷ xs) ys = ap (λ l. max x time ∷ l) (times_append (max x time) xs ys)
-
-after_append : (time : ℕ) (xs ys : List ℕ) → time_after time (xs ++ ys) ≡ time_after (time_after time xs) ys
-after_append time [] ys = refl
-after_append time (x ∷ xs) ys = after_append (max x time) xs ys
 
 -- the answers that an access takes of the clock
 abbrev times_taken : DeviceWord → Option ℕ → ℕ → List ℕ

@@ -1,7 +1,8 @@
 use Rattle.std.proofs.Common.{◌≡◌, ◌<◌, length, sym, ap, subst, arith}
 use Rattle.order_rules.specs.Places.{stream}
 use Rattle.log_order.specs.Rows.{misplaced}
-use Rattle.log_order.proofs.Lift.{stream_there, found_row, none_left}
+use Rattle.order_rules.proofs.Numbers.{stream_there}
+use Rattle.log_order.proofs.Lift.{found_row, none_left}
 use Rattle.log_order.proofs.rows.fill_log.Goals as goal
 
 pub returns-in-Some-clause-found : goal.returns-in-Some-clause-found

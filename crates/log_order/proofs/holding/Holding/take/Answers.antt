@@ -1,10 +1,10 @@
 use Rattle.std.proofs.Common.{sym, subst}
 use Rattle.std.specs.Prelude.{slice_set}
-use Rattle.log_order.specs.Holding.{AreFew}
+use Rattle.log_order.specs.Holding.{YieldsAreFew}
 use Rattle.log_order.proofs.HoldsOfPage.{few_at_first}
 use Rattle.log_order.proofs.holding.Holding.take.Goals as goal
 
 pub invariant_of-self-in_default : goal.invariant_of-self-in_default
 invariant_of-self-in_default c =
     let holds = slice_set c.self.inside.holds.items c.args.hart c.holds_then.result in
-    subst (AreFew holds) (sym c.clear.ensures.items) (few_at_first holds)
+    subst (YieldsAreFew holds) (sym c.clear.ensures.items) (few_at_first holds)
