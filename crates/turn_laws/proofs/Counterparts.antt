@@ -4,7 +4,7 @@ use Rattle.std.proofs.Common.{Option, Some, None, is_some, inl, inr, refl, sym, 
 use Rattle.std.specs.List.{list_any, range_with_len}
 use Rattle.std.specs.Option.{option_map_or}
 use Rattle.std.proofs.lemmas.Bool.Decides.{leb_tells}
-use Rattle.std.proofs.lemmas.Option.{same_Some}
+use Rattle.std.proofs.lemmas.Option.{same_Some, get_or_from_slice_get}
 use Rattle.rv_words.specs.declared.shared.Mode.{Mode}
 use Rattle.rv_words.specs.declared.shared.Mode.TheVariants.{Read, Write}
 use Rattle.rv_words.specs.Addresses.{in_memory}
@@ -20,7 +20,6 @@ use Rattle.orders_law.specs.Orders.{below}
 use Rattle.log_entry.specs.Parts.{strength, conflict}
 use Rattle.flat_machine.specs.State.{FlatState}
 use Rattle.flat_machine.specs.Moves.{fetched, fetched_by, word_round}
-use Rattle.order_rules.proofs.Follow.{index_is}
 use Rattle.replay_model.specs.Board.{board, hart_access}
 use Rattle.turn_model.specs.Board.{unit_in, Board, Terms}
 use Rattle.shared_types.proofs.Lists.{find_same}
@@ -169,6 +168,6 @@ pub claims_are_one : (terms : Terms) (b : Board FlatState) (x : Run) (h page : �
 claims_are_one terms b x h page mode a =
     let k = known_is terms b x h a in (
       k,
-      ap₂ (λ c ns. not (c == terms.limit) && list_any (λ n. (n.0 == page) && conflicts n.1 mode) ns) (index_is b.at.flat.counts h x.count a.1.count) k
+      ap₂ (λ c ns. not (c == terms.limit) && list_any (λ n. (n.0 == page) && conflicts n.1 mode) ns) (get_or_from_slice_get b.at.flat.counts h x.count 0 a.1.count) k
           ∙ ap (λ c. not (x.count == terms.limit) && c) (most_conflicts page mode (known_from x (fetch_of x.hart))),
     )

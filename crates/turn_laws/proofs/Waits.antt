@@ -4,7 +4,7 @@ use Rattle.std.proofs.Common.{find, replicate, Option, Some, None, slice_get, sl
 use Rattle.std.proofs.Common.{if◌then◌else◌}
 use Rattle.std.specs.List.{enumerate_from}
 use Rattle.std.specs.Option.{option_map, option_or, option_and_then}
-use Rattle.std.proofs.lemmas.Option.{none-some, same_Some}
+use Rattle.std.proofs.lemmas.Option.{none-some, same_Some, get_or_from_slice_get}
 use Rattle.std.proofs.lemmas.Bool.{eq-eqb, ne_eqb}
 use Rattle.std.proofs.lemmas.Bool.Decides.{eqb_tells}
 use Rattle.std.proofs.lemmas.List.Folds.{find-append}
@@ -26,7 +26,6 @@ use Rattle.shared_types.proofs.Lists.{mapped, bound_to, set_here, set_there, nei
 use Rattle.replay_model.proofs.ActsOfOrders.{went}
 use Rattle.crew_recording.specs.Recording.{stream_in}
 use Rattle.std.proofs.lemmas.List.{length-set, length-replicate}
-use Rattle.order_rules.proofs.Follow.{index_is}
 use Rattle.replay_law.proofs.Cursors.{index_there}
 use Rattle.privilege_directory.specs.Directory.{by_others}
 use Rattle.privilege_directory.proofs.Holds.{others_and_one, others_and_own}
@@ -263,7 +262,7 @@ module _ {S V : Type 0} (machine : Recordable S V) (terms : Terms) where
       there = let z = are.size in omega (arith, inside, z)
 
       here : next_number c p.0 ≡ p.1 + 1
-      here = index_is c.at.cursor.numbers p.0 (p.1 + 1) (ap (λ ns. slice_get ns p.0) numbers ∙ set_here b.at.cursor.numbers p.0 (p.1 + 1) there)
+      here = get_or_from_slice_get c.at.cursor.numbers p.0 (p.1 + 1) 0 (ap (λ ns. slice_get ns p.0) numbers ∙ set_here b.at.cursor.numbers p.0 (p.1 + 1) there)
 
       away : (page : ℕ) → page ≢ p.0 → next_number c page ≡ next_number b page
       away page other = ap (λ ns. slice_index ns page) numbers ∙ index_there b.at.cursor.numbers p.0 page (p.1 + 1) other
