@@ -1,5 +1,5 @@
 -- A backing at the start, and after moves of a hart.
-use Rattle.std.proofs.Common.{inr, ◌≡◌, ◌≢◌, ℕ, ◌*◌, ◌/◌, ◌<◌, length, Some, sym, ap, ◌∙◌, subst, arith, zero-add}
+use Rattle.std.proofs.Common.{inr, ◌≡◌, ◌≢◌, ℕ, ◌*◌, ◌/◌, ◌<◌, length, Some, refl, sym, ap, ◌∙◌, subst, arith, zero-add}
 use Rattle.std.proofs.lemmas.List.{length-replicate}
 use Rattle.std.proofs.lemmas.List.FromFn.{length-map-range_with_len, get_or-map-range_with_len}
 use Rattle.std.proofs.lemmas.Option.{unwrap_or-slice_get}
@@ -13,7 +13,8 @@ use Rattle.rv_words.specs.Limits.{IsUnit, page_bytes}
 use Rattle.rv_words.proofs.Units.{at_units}
 use Rattle.run_model.specs.Legs.{DifferFor}
 use Rattle.board_backing.specs.declared.backing.Backing.{Backing}
-use Rattle.board_backing.specs.Backing.{Backs, BacksFirst, backing_at_start}
+use Rattle.run_model.specs.Run.{Run, run_at_start}
+use Rattle.board_backing.specs.Backing.{Backs, BacksFirst, IsDesk, backing_at_start}
 
 whole_units : (unit pages : ℕ) → IsUnit unit → page_bytes * pages / unit * unit ≡ page_bytes * pages
 whole_units unit pages is = at_units (λ u. page_bytes * pages / u * u ≡ page_bytes * pages) unit is (omega arith) (omega arith) (omega arith)
@@ -51,3 +52,15 @@ leg_backs b h s t backs differ long = record {
 
 pub begun_backs : (image : Image) (harts : ℕ) (b : Backing) → IsWhole image → b ≡ backing_at_start image harts → BacksFirst image harts b
 begun_backs image harts b whole is s first = subst (λ z. Backs z s) (sym is) (start_backs image harts whole s first)
+
+-- one hart's run and a backing of the same image
+pub starts_together : (image : Image) (b : Backing) (r : Run) → b ≡ backing_at_start image 1 → r ≡ run_at_start 0 1 image → IsDesk b r
+starts_together image b r backing run =
+    subst (λ (z : Backing). IsDesk z r) (sym backing) (subst (λ (z : Run). IsDesk (backing_at_start image 1) z) (sym run) (
+      (
+        refl,
+        length-map-range_with_len (page_of image.unit image.bytes) 0 (length image.bytes / image.unit)
+            ∙ sym (length-replicate (length image.bytes / image.unit) _),
+      ),
+      refl,
+    ))

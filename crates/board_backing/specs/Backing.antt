@@ -53,6 +53,10 @@ pub record Leads (old new : Backing) (run : Run) (h : ℕ) (o : Option (Replay F
 abbrev pub IsStoreOf : Backing → Run → Type 0
 IsStoreOf b run = (b.pages.unit ≡ run.frames.unit) × (length b.pages.pages ≡ length run.frames.pages)
 
+-- the run is of a board of one hart, whose pages are the store's
+abbrev pub IsDesk : Backing → Run → Type 0
+IsDesk b r = IsStoreOf b r × (b.devices.devices.harts ≡ 1)
+
 -- a Gain of the page, whatever its number and waits
 abbrev pub GainLeads : Backing → Backing → Run → Run → ℕ → Mode → Type 0
 GainLeads old new before after page mode =
