@@ -1,0 +1,4 @@
+pub mod ByNumber
+pub mod Numbered
+pub mod Pages
+pub mod Ties

@@ -1,0 +1,4 @@
+pub mod ByNumber
+pub mod Listing
+pub mod Totals
+pub mod Table
