@@ -165,10 +165,8 @@ module _ (terms : Terms) (image : Image) (harts : ℕ) (supply : Supply) (whole 
       (board_sends (unit_in terms)) (board_plain (unit_in terms) harts terms.pages) stay needs (fitting_answers (unit_in terms) harts terms.pages)
       (2 * (harts * terms.limit) + 1)
       (board_at_start terms harts (flat_at_start image harts) supply)
-      (rounds_bound (machine_in terms) terms harts (IsFitting harts terms.pages)
-      (fitting_faithful (unit_in terms) harts terms.pages terms.pages (inr (inr refl)) refl) (flat_at_start image harts) supply good (no_place harts)
-      (board_sends (unit_in terms)) (board_plain (unit_in terms) harts terms.pages) stay needs (fitting_answers (unit_in terms) harts terms.pages)
-      (board_at_start terms harts (flat_at_start image harts) supply) (length-replicate harts []))
+      (subst (λ n. rounds_left (machine_in terms) terms (board_at_start terms harts (flat_at_start image harts) supply) ≤ 2 * (n * terms.limit) + 1)
+      (length-replicate harts []) (rounds_bound (machine_in terms) terms (board_at_start terms harts (flat_at_start image harts) supply)))
       fine_begin (fits, omega (arith, l, m), length-replicate harts []) no_leg_at_start
 
 pub rounds_go_on : RoundsGoOn

@@ -36,8 +36,8 @@ use Rattle.replay_law.proofs.Steps.{act_of, flat_after, step_went}
 use Rattle.replay_law.proofs.Verdicts.{act_is}
 use Rattle.replay_law.proofs.Views.{Shape, Sound, shape_of}
 use Rattle.replay_law.proofs.Boards.{made_of, board_local}
-use Rattle.replay_law.proofs.Orders.{good_first}
-use Rattle.lean_journals.proofs.BoardWants.{good_along, one_step}
+use Rattle.replay_law.proofs.Orders.{good_first, good_along}
+use Rattle.lean_journals.proofs.BoardWants.{one_step}
 use Rattle.turn_model.specs.Laws.{IsPagedBoard, machine_in}
 use Rattle.turn_model.specs.Faithful.{IsFaithful}
 use Rattle.round_progress.proofs.OtherHarts.{NeedsStay, first_of}

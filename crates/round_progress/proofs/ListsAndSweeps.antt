@@ -2,7 +2,7 @@
 use Rattle.std.proofs.Common.{◌≡◌, ℕ, zero, suc, ◌+◌, ◌*◌, ◌%◌, ◌<◌, ◌≤◌, ◌==◌, Bool, true, false, List, [], ◌∷◌, ◌++◌, length, map, min, Some, refl, ap, ◌∙◌}
 use Rattle.std.proofs.Common.{subst, arith, if◌then◌else◌}
 use Rattle.std.specs.Option.{option_map, option_and_then}
-use Rattle.std.proofs.Math.Nat.{mod-lt, sub-add-min_cancel}
+use Rattle.std.proofs.Math.Nat.{mod-lt, min-le_right}
 use Rattle.std.proofs.lemmas.List.{length-append, length-map}
 use Rattle.rv_words.specs.declared.shared.Cause.TheVariants.{Cut}
 use Rattle.orders_law.specs.Orders.{below}
@@ -16,9 +16,6 @@ use Rattle.turn_model.specs.Laws.{OfHarts}
 use Rattle.round_progress.specs.Laws.{IsThere}
 use Rattle.round_progress.proofs.Demands.{IsAnswering, EachBelow}
 use Rattle.round_progress.proofs.TurnsThere.{Has, turn_there}
-
-min_at_most : (a b : ℕ) → min a b ≤ b
-min_at_most a b = let e = sub-add-min_cancel a b in omega (arith, e)
 
 pub each_more : (n : ℕ) (xs : List ℕ) (h : ℕ) → EachBelow n xs → h < n → EachBelow n (xs ++ h ∷ [])
 each_more n [] h all l = (l, tt)
@@ -67,7 +64,7 @@ module _ {S V : Type 0} (machine : Recordable S V) (terms : Terms) (many pages :
       let more = enough (2 * suc (length list) + n) (suc (suc (2 * length list + n))) b (omega arith) has in
       let c =
       one_turn row.0 (min row.1 (whole_leg machine terms row.0 b)) (2 * length list + n) b of.0 more
-      (min_at_most row.1 (whole_leg machine terms row.0 b)) in
+      (min-le_right row.1 (whole_leg machine terms row.0 b)) in
       let d = listed_there list n c.0 of.1 c.2 in
       (d.0, ap (option_and_then (listed machine terms list)) c.1 ∙ d.1, d.2)
 

@@ -27,6 +27,22 @@ second : (a b : Bool) → (a || b) ≡ false → b ≡ false
 second true b e = absurd (true≢false e)
 second false b e = e
 
+module _ {S V : Type 0} (machine : Recordable S V) (terms : Terms) where
+  left_bound : (b : Board S) (hs : List ℕ) → left_of machine terms b hs ≤ length hs * terms.limit
+  left_bound b [] = omega arith
+  left_bound b (h ∷ hs) = let rest = left_bound b hs in omega (arith, rest)
+
+  -- no more is left than each hart's limit
+  pub rounds_bound : (b : Board S) → rounds_left machine terms b ≤ 2 * (length b.streams * terms.limit) + 1
+  rounds_bound b =
+      let l = left_bound b (harts b) in
+      let e = ap (λ n. n * terms.limit) (size_below (length b.streams)) in
+      let u = unit_most (has_leg machine terms b) in omega (arith, l, e, u)
+    where
+      unit_most : (x : Bool) → (if x then 0 else 1) ≤ 1
+      unit_most true = omega arith
+      unit_most false = omega arith
+
 module _ {S V : Type 0} (machine : Recordable S V) (terms : Terms) (many : ℕ) (Good : S → Type 0) (faithful : IsFaithful machine.flat many terms.pages Good)
     (first : S) (supply : Supply) (good : Good first) (unmoved : (h : ℕ) → machine.flat.count first h ≡ 0) (sends : AccessesSend machine)
     (plain : IsPlain machine many Good) (stay : WantsStay machine terms many Good faithful first)
@@ -130,19 +146,3 @@ module _ {S V : Type 0} (machine : Recordable S V) (terms : Terms) (many : ℕ) 
       last_there machine terms many terms.pages Good faithful answers (harts x.1) 0 x.1 (each_below many (length x.1.streams) (omega (arith, alike)))
       (x.5.0, (let z = x.5.1 in omega (arith, z, size, alike)), alike) in
       (comes_to machine terms c.0, record { number = x.0; over = x.1; closed = c.0; are_made = x.3; is_over = x.4; last = c.1; recorded = refl }, x.2)
-
-  -- no more is left than each hart's limit
-  left_bound : (b : Board S) (hs : List ℕ) → left_of machine terms b hs ≤ length hs * terms.limit
-  left_bound b [] = omega arith
-  left_bound b (h ∷ hs) = let rest = left_bound b hs in omega (arith, rest)
-
-  pub rounds_bound : (b : Board S) → length b.streams ≡ many → rounds_left machine terms b ≤ 2 * (many * terms.limit) + 1
-  rounds_bound b size =
-      let l = left_bound b (harts b) in
-      let s : length (harts b) ≡ many = size_below (length b.streams) ∙ size in
-      let e = ap (λ n. n * terms.limit) s in
-      let u = unit_most (has_leg machine terms b) in omega (arith, l, e, u)
-    where
-      unit_most : (x : Bool) → (if x then 0 else 1) ≤ 1
-      unit_most true = omega arith
-      unit_most false = omega arith

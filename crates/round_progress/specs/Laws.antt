@@ -64,6 +64,11 @@ RoundsFall = (terms : Terms) (image : Image) (harts : ℕ) (supply : Supply) (n 
     → is_over (machine_in terms) terms c ≡ false
     → rounds_left (machine_in terms) terms c < rounds_left (machine_in terms) terms b
 
+-- twice the limit for each hart, and one, is left at most
+abbrev pub FewAreLeft : Type 0
+FewAreLeft = (terms : Terms) (b : Board FlatState)
+    → rounds_left (machine_in terms) terms b ≤ 2 * (length b.streams * terms.limit) + 1
+
 -- one round more behind so many, where the board isn't over
 abbrev pub RoundsFollow : Type 0
 RoundsFollow = (terms : Terms) (n : ℕ) (first b c : Board FlatState)

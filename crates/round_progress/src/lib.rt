@@ -2,8 +2,8 @@
 //! (docs/recorder.md): laws of the recorder's turns. The functions have no bodies: they promise the laws.
 #![tactic(auto)]
 
-ghost use Rattle.round_progress.specs.Laws.{ListsAreRecorded, RoundsAreRecorded, RoundsFall, RoundsFollow, RoundsGoOn};
-ghost use Rattle.round_progress.specs.Laws.{TurnsAreThere};
+ghost use Rattle.round_progress.specs.Laws.{FewAreLeft, ListsAreRecorded, RoundsAreRecorded, RoundsFall, RoundsFollow};
+ghost use Rattle.round_progress.specs.Laws.{RoundsGoOn, TurnsAreThere};
 
 /// A turn with moves that its hart can make comes to a board, where the clock has two answers left.
 pub fn turns_are_there()
@@ -20,6 +20,7 @@ pub fn lists_are_recorded()
 pub fn rounds_go_on()
     ensures go_on { RoundsGoOn }
     ensures fall { RoundsFall }
+    ensures few { FewAreLeft }
     ensures follow { RoundsFollow }
 {}
 

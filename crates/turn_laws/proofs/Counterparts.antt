@@ -168,6 +168,7 @@ pub claims_are_one : (terms : Terms) (b : Board FlatState) (x : Run) (h page : �
 claims_are_one terms b x h page mode a =
     let k = known_is terms b x h a in (
       k,
-      ap₂ (λ c ns. not (c == terms.limit) && list_any (λ n. (n.0 == page) && conflicts n.1 mode) ns) (get_or_from_slice_get b.at.flat.counts h x.count 0 a.1.count) k
+      ap₂ (λ c ns. not (c == terms.limit) && list_any (λ n. (n.0 == page) && conflicts n.1 mode) ns)
+          (get_or_from_slice_get b.at.flat.counts h x.count 0 a.1.count) k
           ∙ ap (λ c. not (x.count == terms.limit) && c) (most_conflicts page mode (known_from x (fetch_of x.hart))),
     )

@@ -1,7 +1,9 @@
 -- A turn of one hart leaves what another hart sees, and so the leg that it has ahead.
 use Rattle.std.proofs.Common.{◌≡◌, ◌≢◌, ℕ, zero, suc, ◌+◌, ◌-◌, ◌<◌, ◌≤◌, List, [], ◌∷◌, ◌++◌, length, find, max, Bool, inl, inr, ◌⊎◌, Option, Some, None}
 use Rattle.std.proofs.Common.{is_some, slice_get, unwrap_or, refl, sym, ap, ap₂, ◌∙◌, subst, arith}
+use Rattle.std.specs.Prelude.{IsSome, min}
 use Rattle.std.specs.Option.{option_map, option_and_then, option_map_or}
+use Rattle.std.proofs.Math.Nat.{min-zero, zero-min, suc-min-suc}
 use Rattle.std.proofs.lemmas.Option.{none-some, same_Some}
 use Rattle.log_entry.specs.declared.log.Log.{Log}
 use Rattle.elf_image.specs.Image.{Image, IsWhole}
@@ -15,6 +17,7 @@ use Rattle.replay_model.specs.Board.{board, hart_access}
 use Rattle.order_rules.specs.Holders.{held, row}
 use Rattle.replay_model.specs.State.{Replay, want, IsCrewState}
 use Rattle.replay_model.specs.Items.{Item, Move, CanGo, Verdict, HasDiverged, HasEnded, Holds, judged, goes, told_of, verdict_on, made, step}
+use Rattle.replay_model.proofs.ActsOfOrders.{went}
 use Rattle.crew_recording.specs.Recording.{Recording, first_recording}
 use Rattle.crew_recording.proofs.Together.{made_after, others_same}
 use Rattle.replay_law.proofs.Local.{actor, HasPages}
@@ -23,9 +26,9 @@ use Rattle.replay_law.proofs.Tables.{held_stays}
 use Rattle.replay_law.proofs.Verdicts.{act_is}
 use Rattle.replay_law.proofs.Views.{Shape, Sound, view, view_agrees, view_is_one}
 use Rattle.replay_law.proofs.Boards.{made_of, view_stays}
-use Rattle.run_model.specs.Run.{Run, IsOneRun, ahead_of, moved_by, move_held}
+use Rattle.run_model.specs.Run.{Run, IsOneRun, ahead_of, hold_of, moved_by, move_held}
 use Rattle.run_model.specs.Agreement.{Agrees, Asks, after_move}
-use Rattle.run_model.specs.Legs.{Runs, KeepsPages}
+use Rattle.run_model.specs.Legs.{Runs, KeepsPages, DifferFor}
 use Rattle.run_model.specs.declared.asked.Ahead.{Ahead}
 use Rattle.run_model.specs.declared.asked.Ahead.TheVariants.{Free, Wants, AtDevice}
 use Rattle.run_model.specs.Laws.{IsMoved}
@@ -38,7 +41,7 @@ use Rattle.turn_model.proofs.Turns.{turn_keeps}
 use Rattle.turn_model.proofs.Entries.{after_entry}
 use Rattle.log_entry.specs.declared.log.Entry.{Entry}
 use Rattle.device_board.specs.Recording.{recorded_input}
-use Rattle.shared_types.proofs.Lists.{set_there, found_at}
+use Rattle.shared_types.proofs.Lists.{set_there, found_at, bound_to}
 use Rattle.crew_recording.proofs.OrderedRecordings.{acts_on}
 use Rattle.turn_model.specs.Lists.{leg, leg_by, whole_leg}
 use Rattle.turn_model.specs.Turn.{turn}
@@ -47,7 +50,7 @@ use Rattle.turn_model.proofs.Ways.{recording_of, by_one}
 use Rattle.turn_laws.specs.Reached.{Reached, Turned}
 use Rattle.turn_laws.proofs.ReachedBoards.{MadeBy, ReachedB, reached_is, sound_of, known, known_sound, known_step, can_make, turn_made, faithful_board}
 use Rattle.turn_laws.proofs.ReachedBoards.{shape_in}
-use Rattle.turn_laws.specs.Laws.{AgreesIn, IsSameTo}
+use Rattle.turn_laws.specs.Laws.{AgreesIn, AgreesAlike, HasSame, IsSameTo}
 
 -- a run agrees with a state of other holders, where its own modes stay
 agrees_held : (x : Run) (h : ℕ) (s m : Replay FlatState) → Agrees x h s → m.flat ≡ s.flat → length m.holders ≡ length s.holders
@@ -64,6 +67,55 @@ agrees_held x h s m a flat table rows modes = record {
   modes = λ page. modes page ∙ a.modes page;
   bytes = λ page some. ap (λ (f : FlatState). page_of x.frames.unit f.memory page) flat ∙ a.bytes page some;
 }
+
+-- what one run agrees with in two states, each run agrees with that agrees with one of them
+agrees_by : (terms : Terms) (h : ℕ) (x y : Run) (s t : Replay FlatState) → AgreesIn terms x h s → AgreesIn terms x h t → AgreesIn terms y h s
+    → AgreesIn terms y h t
+agrees_by terms h x y s t a b c = (
+  c.0,
+  record {
+    unit_is = c.1.unit_is;
+    harts = b.1.harts ∙ sym a.1.harts ∙ c.1.harts;
+    memory = b.1.memory ∙ sym a.1.memory ∙ c.1.memory;
+    table = b.1.table ∙ sym a.1.table ∙ c.1.table;
+    rows = b.1.rows;
+    hart = b.1.hart ∙ sym a.1.hart ∙ c.1.hart;
+    count = b.1.count ∙ sym a.1.count ∙ c.1.count;
+    modes = λ page. b.1.modes page ∙ sym (a.1.modes page) ∙ c.1.modes page;
+    bytes = λ page some.
+        let there : IsSome (hold_of x page) = subst (λ o. IsSome o) (sym (c.1.modes page) ∙ a.1.modes page) some in
+        let unit : y.frames.unit ≡ x.frames.unit = c.0 ∙ sym a.0 in
+        ap (λ u. page_of u t.flat.memory page) unit ∙ b.1.bytes page there ∙ sym (a.1.bytes page there)
+        ∙ ap (λ u. page_of u s.flat.memory page) (sym unit) ∙ c.1.bytes page some;
+  },
+)
+
+-- and of both the hart has the same
+same_by : (terms : Terms) (h : ℕ) (x : Run) (s t : Replay FlatState) → AgreesIn terms x h s → AgreesIn terms x h t → HasSame terms h s t
+same_by terms h x s t a b = record {
+  same_hart = b.1.hart ∙ sym a.1.hart;
+  same_count = b.1.count ∙ sym a.1.count;
+  same_table = b.1.table ∙ sym a.1.table;
+  same_modes = λ page. b.1.modes page ∙ sym (a.1.modes page);
+  same_bytes = λ page some.
+      let there : IsSome (hold_of x page) = subst (λ o. IsSome o) (a.1.modes page) some in
+      ap (λ u. page_of u t.flat.memory page) (sym a.0) ∙ b.1.bytes page there ∙ sym (a.1.bytes page there)
+      ∙ ap (λ u. page_of u s.flat.memory page) a.0;
+}
+
+-- states that differ for a hart alone, one after another
+differ_then : (u h : ℕ) (s m t : Replay FlatState) → DifferFor u h s m → DifferFor u h m t → DifferFor u h s t
+differ_then u h s m t one two = record {
+  harts = λ g n. two.harts g n ∙ one.harts g n;
+  counts = λ g n. two.counts g n ∙ one.counts g n;
+  pages = λ page n. two.pages page (λ e. n (ap (λ hs. held hs page h) (sym one.holders) ∙ e)) ∙ one.pages page n;
+  devices = two.devices ∙ one.devices;
+  holders = two.holders ∙ one.holders;
+  cursor = two.cursor ∙ one.cursor;
+}
+
+differ_none : (u h : ℕ) (s : Replay FlatState) → DifferFor u h s s
+differ_none u h s = record { harts = λ g n. refl; counts = λ g n. refl; pages = λ page n. refl; devices = refl; holders = refl; cursor = refl }
 
 module _ (shape : Shape) where
   -- a run on frames of the shape's unit
@@ -176,8 +228,10 @@ module _ (terms : Terms) (h : ℕ) where
   -- and so do its moves
   pub runs_alike : (k : ℕ) (x : Run) (s t m : Replay FlatState) → IsOneRun x → Sees x s → Sees x t
       → runs (machine_in terms) terms h k s ≡ Some m
-      → (n : Replay FlatState) × (runs (machine_in terms) terms h k t ≡ Some n) × ((y : Run) × IsOneRun y × AgreesIn terms y h m × AgreesIn terms y h n)
-  runs_alike zero x s t m one a b is = (t, refl, (x, one, subst (AgreesIn terms x h) (same_Some _ _ is) a.0, b.0))
+      → (n : Replay FlatState) × (runs (machine_in terms) terms h k t ≡ Some n) × AgreesAlike terms h m n
+  runs_alike zero x s t m one a b is =
+      let last = subst (AgreesIn terms x h) (same_Some _ _ is) a.0 in
+      (t, refl, record { run = (x, one, last); each = λ y c. agrees_by terms h x y m t last b.0 c })
   runs_alike (suc k) x s t m one a b is = elim (is_free (ahead_of x)) [
     | inl free ↦
         let first = sees_again x s a one free in
@@ -188,6 +242,48 @@ module _ (terms : Terms) (h : ℕ) where
         (rest.0, ap (further k) (goes_free terms x h t b.0 second.0).1 ∙ rest.1, rest.2)
     | inr not_free ↦ absurd (none-some m (sym (ap (further k) (goes_not terms x h s a.0 not_free)) ∙ is))
   ]
+
+  -- which leave all others
+  pub runs_leave : (k : ℕ) (x : Run) (s m : Replay FlatState) → IsOneRun x → Sees x s → runs (machine_in terms) terms h k s ≡ Some m
+      → DifferFor (unit_in terms) h s m × IsCrewIn terms m × ((y : Run) × IsOneRun y × AgreesIn terms y h m)
+  runs_leave zero x s m one a is =
+      subst (λ z. DifferFor (unit_in terms) h s z × IsCrewIn terms z × ((y : Run) × IsOneRun y × AgreesIn terms y h z)) (same_Some _ _ is)
+      (differ_none (unit_in terms) h s, a.1, (x, one, a.0))
+  runs_leave (suc k) x s m one a is = elim (is_free (ahead_of x)) [
+    | inl free ↦
+        let first = sees_again x s a one free in
+        let rest =
+        runs_leave k (moved_by x (move_held x)) (after_move x h s) m first.0.one first.1
+        (sym (ap (further k) (goes_free terms x h s a.0 first.0).1) ∙ is) in
+        (differ_then (unit_in terms) h s (after_move x h s) m (subst (λ u. DifferFor u h s (after_move x h s)) a.0.0 first.0.others) rest.0, rest.1, rest.2)
+    | inr not_free ↦ absurd (none-some m (sym (ap (further k) (goes_not terms x h s a.0 not_free)) ∙ is))
+  ]
+
+  -- so many moves are of a leg that may have as many
+  runs_within : (k most : ℕ) (s t : Replay FlatState) → k ≤ most → runs (machine_in terms) terms h k s ≡ Some t
+      → k ≤ leg (machine_in terms) terms h most s
+  runs_within zero most s t l is = omega arith
+  runs_within (suc k) zero s t l is = absurd (omega (arith, l))
+  runs_within (suc k) (suc most) s t l is =
+      let m = bound_to (λ (z : Replay FlatState × Option (List Step)). runs (machine_in terms) terms h k z.0)
+      (goes (board (unit_in terms)) s h Move (verdict_on (board (unit_in terms)) s h Move)) t is in
+      let rest = runs_within k most m.0.0 t (omega (arith, l)) m.2 in
+      let e = ap (longer most) m.1 in omega (arith, rest, e)
+
+  -- a leg that ends sooner
+  pub leg_sooner : (k most : ℕ) (s : Replay FlatState) → leg (machine_in terms) terms h (min k most) s ≡ min k (leg (machine_in terms) terms h most s)
+  leg_sooner zero most s =
+      ap (λ n. leg (machine_in terms) terms h n s) (zero-min most) ∙ sym (zero-min (leg (machine_in terms) terms h most s))
+  leg_sooner (suc k) zero s = ap (λ n. leg (machine_in terms) terms h n s) (min-zero (suc k)) ∙ sym (min-zero (suc k))
+  leg_sooner (suc k) (suc most) s =
+      ap (λ n. leg (machine_in terms) terms h n s) (suc-min-suc k most)
+      ∙ by (goes (board (unit_in terms)) s h Move (verdict_on (board (unit_in terms)) s h Move)) (λ m. leg_sooner k most m)
+    where
+      by : (o : Option (Replay FlatState × Option (List Step)))
+          → ((m : Replay FlatState) → leg (machine_in terms) terms h (min k most) m ≡ min k (leg (machine_in terms) terms h most m))
+          → longer (min k most) o ≡ min (suc k) (longer most o)
+      by None f = sym (min-zero (suc k))
+      by (Some m) f = ap suc (f m.0) ∙ sym (suc-min-suc k (leg (machine_in terms) terms h most m.0))
 
 module _ (terms : Terms) (image : Image) (harts : ℕ) (supply : Supply) (whole : IsWhole image) (pages : terms.pages ≡ image.pages) where
   abbrev MadeB : Recording FlatState → List (ℕ × Item) → Recording FlatState → Type 0
@@ -300,6 +396,7 @@ module _ (terms : Terms) (image : Image) (harts : ℕ) (supply : Supply) (whole 
         same_order = order;
         same_entries = same.stream;
         same_count = same.count;
+        same_part = same_by terms h x.0 b.at d.at seen.0 still.0;
         same_leg = leg_same h b d x.0 x.1 seen still same.count (last_order b h) (last_order d h) order;
         moves_agree = λ k s runs. runs_alike terms h k x.0 b.at d.at s x.1 seen still runs;
       }
@@ -368,3 +465,22 @@ module _ (terms : Terms) (harts pages h until : ℕ) (t : Replay FlatState) wher
             0) gone) ∙ sym (ap (λ j. leg (machine_in terms) terms h j s) more),
         ap (option_and_then (λ (z : Replay FlatState × Option (List Step)). runs (machine_in terms) terms h k z.0)) gone ∙ rest.1,
       )
+
+  -- so many moves are of the leg up to a count that they don't pass
+  pub moves_of_leg : (k : ℕ) (s : Replay FlatState) → IsPagedBoard harts pages s.flat → runs (machine_in terms) terms h k s ≡ Some t
+      → (board (unit_in terms)).count t.flat h ≤ until
+      → (k ≤ leg (machine_in terms) terms h (until - (board (unit_in terms)).count s.flat h) s)
+      × ((board (unit_in terms)).count s.flat h + k ≡ (board (unit_in terms)).count t.flat h)
+  moves_of_leg k s good is within =
+      let total = counted_runs k s good is in
+      (runs_within terms h k (until - (board (unit_in terms)).count s.flat h) s t (omega (arith, total, within)) is, total)
+    where
+      counted_runs : (k : ℕ) (s : Replay FlatState) → IsPagedBoard harts pages s.flat → runs (machine_in terms) terms h k s ≡ Some t
+          → (board (unit_in terms)).count s.flat h + k ≡ (board (unit_in terms)).count t.flat h
+      counted_runs zero s good is = let e = ap (λ (x : Replay FlatState). (board (unit_in terms)).count x.flat h) (same_Some _ _ is) in omega (arith, e)
+      counted_runs (suc k) s good is =
+          let m = bound_to (λ (z : Replay FlatState × Option (List Step)). runs (machine_in terms) terms h k z.0)
+          (goes (board (unit_in terms)) s h Move (verdict_on (board (unit_in terms)) s h Move)) t is in
+          let one = moved_on s m.0.0 good (went (board (unit_in terms)) s m.0.0 h Move (verdict_on (board (unit_in terms)) s h Move) m.0.1 m.1) in
+          let rest = counted_runs k m.0.0 one.0 m.2 in
+          let c = one.1 in omega (arith, rest, c)

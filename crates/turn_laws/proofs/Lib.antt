@@ -6,5 +6,7 @@ pub mod Polls
 pub mod Waits
 pub mod Counterparts
 pub mod TurnSizes
+pub mod GoingOn
 pub mod ReachedLists
 pub mod LegsAtOnce
+pub mod Causes

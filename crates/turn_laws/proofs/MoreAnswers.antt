@@ -15,7 +15,7 @@ use Rattle.device_board.specs.Recording.{recorded_input}
 use Rattle.log_entry.specs.declared.log.Entry.{Entry}
 use Rattle.replay_model.specs.State.{Replay}
 use Rattle.replay_model.specs.Items.{Makes, made}
-use Rattle.shared_types.proofs.Lists.{mapped}
+use Rattle.shared_types.proofs.Lists.{mapped, bound_to}
 use Rattle.turn_model.specs.Recordable.{Recordable}
 use Rattle.turn_model.specs.Board.{Board, Order, Rest, Supply, Terms, harts, stream, wanted, closes, is_over, is_at_limit}
 use Rattle.turn_model.specs.Claims.{holds_so, kept_by, needed}
@@ -448,18 +448,12 @@ module _ {S : Type 0} where
     shut = λ cause e. let s = one.shut cause e in let t = two.shut cause s.0 in (t.0, t.1 ∙ s.1);
   }
 
-  -- where one behind another comes to a board
-  pub between : {A : Type 0} (next : A → Option (Board S)) (o : Option A) (c : Board S) → option_and_then next o ≡ Some c → (m : A) × (o ≡ Some m)
-      × (next m ≡ Some c)
-  between next None c e = absurd (none-some c e)
-  between next (Some m) c e = (m, refl, e)
-
 module _ {S V : Type 0} (machine : Recordable S V) (terms : Terms) where
   pub listed_carried : (list : List (ℕ × ℕ)) (b c : Board S) → listed machine terms list b ≡ Some c → IsCarried (listed machine terms list) b c
   listed_carried [] b c is = subst (IsCarried (listed machine terms []) b) (same_Some _ _ is) (none_carried (listed machine terms []) b (λ x. refl))
   listed_carried (row ∷ list) b c is =
       let n = min row.1 (whole_leg machine terms row.0 b) in
-      let m = between (listed machine terms list) (turn machine terms row.0 n b) c is in
+      let m = bound_to (listed machine terms list) (turn machine terms row.0 n b) c is in
       carried_by (λ d. option_and_then (listed machine terms list) (turn machine terms row.0 n d)) (listed machine terms (row ∷ list)) b c (λ x. refl)
       (both_carried (turn machine terms row.0 n) (listed machine terms list) b m.0 c (turn_carried machine terms row.0 n b m.0 m.1)
       (listed_carried list m.0 c m.2))
@@ -505,7 +499,7 @@ module _ {S V : Type 0} (machine : Recordable S V) (terms : Terms) where
       subst (IsCarried (sweep machine terms r moved []) b) (same_Some _ _ is) (none_carried (sweep machine terms r moved []) b (λ x. refl))
   sweep_carried r moved (h ∷ hs) b c is =
       let n = if moved then whole_leg machine terms h b else 0 in
-      let m = between (sweep machine terms r moved hs) (turn machine terms h n (with_favoured r b)) c is in
+      let m = bound_to (sweep machine terms r moved hs) (turn machine terms h n (with_favoured r b)) c is in
       let t = turn_carried machine terms h n (with_favoured r b) m.0 m.1 in
       carried_by (λ d. option_and_then (sweep machine terms r moved hs) (turn machine terms h n (with_favoured r d)))
       (sweep machine terms r moved (h ∷ hs)) b c (λ x. refl)
@@ -522,8 +516,8 @@ module _ {S V : Type 0} (machine : Recordable S V) (terms : Terms) where
   pub round_carried : (r : ℕ) (moved : Bool) (b c : Board S) → round machine terms r moved b ≡ Some c → IsCarried (round machine terms r moved) b c
   round_carried r moved b c is =
       let hs = round_from r b in
-      let m = between (λ d. sweep machine terms r false hs d) (option_and_then (sweep machine terms r false hs) (sweep machine terms r moved hs b)) c is in
-      let l = between (λ d. sweep machine terms r false hs d) (sweep machine terms r moved hs b) m.0 m.1 in
+      let m = bound_to (λ d. sweep machine terms r false hs d) (option_and_then (sweep machine terms r false hs) (sweep machine terms r moved hs b)) c is in
+      let l = bound_to (λ d. sweep machine terms r false hs d) (sweep machine terms r moved hs b) m.0 m.1 in
       carried_by (λ d. option_and_then (sweep machine terms r false hs) (option_and_then (sweep machine terms r false hs) (sweep machine terms r moved hs d)))
       (round machine terms r moved) b c (λ x. refl)
       (both_carried (λ d. option_and_then (sweep machine terms r false hs) (sweep machine terms r moved hs d)) (sweep machine terms r false hs) b m.0 c
@@ -539,7 +533,7 @@ module _ {S V : Type 0} (machine : Recordable S V) (terms : Terms) where
         Some c → IsCarried (rounds machine terms r (suc more)) b c
     by rest true over is = absurd (none-some c is)
     by rest false over is =
-        let m = between (rounds machine terms (r + 1) more) (round machine terms r (not (r == 0)) b) c is in
+        let m = bound_to (rounds machine terms (r + 1) more) (round machine terms r (not (r == 0)) b) c is in
         carried_by (λ d. option_and_then (rounds machine terms (r + 1) more) (round machine terms r (not (r == 0)) d)) (rounds machine terms r (suc more)) b c
         (λ x. ap (λ p. if p then None else option_and_then (rounds machine terms (r + 1) more) (round machine terms r (not (r == 0)) (with_more x b))) over)
         (both_carried (round machine terms r (not (r == 0))) (rounds machine terms (r + 1) more) b m.0 c (round_carried r (not (r == 0)) b m.0 m.1)
@@ -552,7 +546,7 @@ module _ {S V : Type 0} (machine : Recordable S V) (terms : Terms) where
         → option_and_then (last_turns machine terms hs) (if n == 0 then Some b else turn machine terms h n b) ≡ Some c
         → IsCarried (last_turns machine terms (h ∷ hs)) b c
     by rest n leg is =
-        let m = between (last_turns machine terms hs) (if n == 0 then Some b else turn machine terms h n b) c is in
+        let m = bound_to (last_turns machine terms hs) (if n == 0 then Some b else turn machine terms h n b) c is in
         carried_by (λ d. option_and_then (last_turns machine terms hs) (if n == 0 then Some d else turn machine terms h n d))
         (last_turns machine terms (h ∷ hs)) b c
         (λ x. ap (λ k. option_and_then (last_turns machine terms hs) (if k == 0 then Some (with_more x b) else turn machine terms h k (with_more x b))) leg)
@@ -569,7 +563,7 @@ module _ {S V : Type 0} (machine : Recordable S V) (terms : Terms) where
       × WithMore (λ x. recorded_by_list machine terms list (with_more x b) ≡ Some (comes_to machine terms (with_more x c))) b c
   list_recorded list b r is =
       let d = mapped (comes_to machine terms) (option_and_then (closed_after machine terms) (listed machine terms list b)) r is in
-      let m = between (closed_after machine terms) (listed machine terms list b) d.0 d.1 in
+      let m = bound_to (closed_after machine terms) (listed machine terms list b) d.0 d.1 in
       let one =
       both_carried (listed machine terms list) (closed_after machine terms) b m.0 d.0 (listed_carried list b m.0 m.1) (closed_carried m.0 d.0 m.2) in (
         d.0,
@@ -601,14 +595,4 @@ module _ {S V : Type 0} (machine : Recordable S V) (terms : Terms) where
             (with_both (Extends (rounds machine terms 0 is.number) b is.over) (Extends (last_turns machine terms (harts is.over)) is.over is.closed)
             (rounds machine terms 0 is.number) (last_turns machine terms (harts is.over)) b is.over is.closed one two one.extended two.extended),
       )
-
   -- a list behind another
-  pub listed_behind : (list more : List (ℕ × ℕ)) (b : Board S)
-      → listed machine terms (list ++ more) b ≡ option_and_then (listed machine terms more) (listed machine terms list b)
-  listed_behind [] more b = refl
-  listed_behind (row ∷ list) more b = by (turn machine terms row.0 (min row.1 (whole_leg machine terms row.0 b)) b) (λ c. listed_behind list more c) where
-    by : (o : Option (Board S)) → ((c : Board S)
-        → listed machine terms (list ++ more) c ≡ option_and_then (listed machine terms more) (listed machine terms list c))
-        → option_and_then (listed machine terms (list ++ more)) o ≡ option_and_then (listed machine terms more) (option_and_then (listed machine terms list) o)
-    by None f = refl
-    by (Some c) f = f c

@@ -23,7 +23,7 @@ use Rattle.crew_recording.proofs.Together.{Made}
 use Rattle.crew_recording.proofs.Whole.{first_ordered, orderly}
 use Rattle.replay_law.specs.Laws.{IsReplayable, first_replay}
 use Rattle.replay_law.proofs.Views.{Shape, Sound}
-use Rattle.replay_law.proofs.Orders.{good_first}
+use Rattle.replay_law.proofs.Orders.{good_first, good_along}
 use Rattle.turn_model.specs.Board.{Board, Supply, Terms, unit_in}
 use Rattle.turn_model.specs.Lists.{whole_leg}
 use Rattle.turn_model.specs.Turn.{turn}
@@ -31,7 +31,7 @@ use Rattle.turn_model.specs.Laws.{IsPagedBoard, machine_in}
 use Rattle.turn_model.specs.Faithful.{IsFaithful}
 use Rattle.turn_model.proofs.Ways.{recording_of}
 use Rattle.turn_model.proofs.BoardFacts.{board_faithful, board_sends, start_with}
-use Rattle.lean_journals.proofs.BoardWants.{good_along, one_step}
+use Rattle.lean_journals.proofs.BoardWants.{one_step}
 use Rattle.turn_model.proofs.Turns.{CanMove, Goes, IsOf, turn_goes}
 use Rattle.turn_model.proofs.Boards.{SoundBoard, IsReached, can_leg, reached_begin, reached_aside, reached_sound, reached_turn}
 use Rattle.turn_laws.specs.Reached.{Reached, Begun, Turned, Favours, Shut}

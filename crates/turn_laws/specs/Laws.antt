@@ -1,11 +1,14 @@
 -- What holds of the recorder's turns, for code that takes them.
-use Rattle.std.specs.Prelude.{ℕ, ◌≡◌, ◌≢◌, ◌++◌, ◌∷◌, ◌+◌, ◌-◌, ◌%◌, ◌<◌, ◌≤◌, ◌==◌, ◌&&◌, not, Bool, true, false, List, [], length, replicate, find, Some}
+use Rattle.std.specs.Prelude.{ℕ, ◌≡◌, ◌≢◌, ◌++◌, ◌∷◌, ◌+◌, ◌-◌, ◌%◌, ◌<◌, ◌≤◌, ◌==◌, ◌&&◌, not, min, Bool, true, false, List, [], length, replicate, find}
+use Rattle.std.specs.Prelude.{Option, Some, None, IsSome, slice_get}
 use Rattle.std.specs.Option.{option_and_then}
 use Rattle.rv_words.specs.Limits.{poll_distance}
 use Rattle.rv_words.specs.declared.shared.Mode.{Mode}
-use Rattle.rv_words.specs.declared.shared.Cause.TheVariants.{Fault}
+use Rattle.rv_words.specs.declared.shared.Cause.{Cause}
+use Rattle.rv_words.specs.declared.shared.Cause.TheVariants.{Stop, Limit, Full, Cut, Fault}
 use Rattle.rv_hart.specs.Effects.{fetch_of}
 use Rattle.elf_image.specs.Image.{Image, IsWhole}
+use Rattle.guest_pages.specs.Pages.{page_of}
 use Rattle.flat_machine.specs.State.{FlatState, flat_at_start}
 use Rattle.log_entry.specs.declared.log.Entry.{Entry}
 use Rattle.log_entry.specs.declared.log.Entry.TheVariants.{Gain, Poll}
@@ -13,21 +16,22 @@ use Rattle.log_entry.specs.declared.waits.WaitFor.{WaitFor}
 use Rattle.log_entry.specs.Parts.{unit_of, is_poll, page_number, conflict}
 use Rattle.log_entry.specs.Size.{size_in, frame_size}
 use Rattle.orders_law.specs.Orders.{below}
+use Rattle.order_rules.specs.Holders.{held}
 use Rattle.order_rules.specs.Rules.{has_poll}
 use Rattle.privilege_directory.specs.Directory.{Directory, by_others, clash_of}
 use Rattle.replay_model.specs.Board.{board, hart_access}
 use Rattle.replay_model.specs.State.{Replay, IsCrewState}
 use Rattle.run_model.specs.Run.{Run, IsOneRun, lacks, ahead_of, known_from, claim_of}
 use Rattle.run_model.specs.Agreement.{Agrees, Asks}
-use Rattle.run_model.specs.Legs.{IsLeg}
-use Rattle.turn_model.specs.Board.{Board, Supply, Terms, unit_in, stream, last_order, count, board_at_start, log_of}
+use Rattle.run_model.specs.Legs.{IsLeg, DifferFor}
+use Rattle.turn_model.specs.Board.{Board, Supply, Terms, unit_in, stream, last_order, count, is_over, board_at_start, log_of}
 use Rattle.turn_model.specs.Claims.{clash, holds_so, known, needed, claims_against}
 use Rattle.turn_model.specs.Ways.{Way, On, goes, entered, log_size}
 use Rattle.turn_model.specs.Steps.{runs, next_number, next_poll, gain_of, steps}
 use Rattle.turn_model.specs.Turn.{turn}
 use Rattle.turn_model.specs.Lists.{Recorded, leg, whole_leg, listed, closed_after, comes_to, recorded_by_list}
 use Rattle.turn_model.specs.Rounds.{round_from, sweep, round, rounds, last_turns, IsRecordedInRounds}
-use Rattle.turn_model.specs.Laws.{IsPagedBoard, OfHarts, machine_in}
+use Rattle.turn_model.specs.Laws.{IsPagedBoard, OfHarts, machine_in, first_board}
 use Rattle.turn_laws.specs.Supplies.{followed_by, with_more, WithMore, IsCarried, IsCarriedStep, AreCarried}
 use Rattle.turn_laws.specs.Reached.{Reached}
 use Rattle.turn_laws.specs.GivenLegs.{EachBelow, sweep_with, last_with}
@@ -89,6 +93,17 @@ abbrev pub ListsGoOn : Type 0
 ListsGoOn = (terms : Terms) (list more : List (ℕ × ℕ)) (b : Board FlatState)
     → listed (machine_in terms) terms (list ++ more) b ≡ option_and_then (listed (machine_in terms) terms more) (listed (machine_in terms) terms list b)
 
+-- And so do sweeps and last turns.
+abbrev pub SweepsGoOn : Type 0
+SweepsGoOn = (terms : Terms) (r : ℕ) (moved : Bool) (hs more : List ℕ) (b : Board FlatState)
+    → sweep (machine_in terms) terms r moved (hs ++ more) b
+    ≡ option_and_then (sweep (machine_in terms) terms r moved more) (sweep (machine_in terms) terms r moved hs b)
+
+abbrev pub LastTurnsGoOn : Type 0
+LastTurnsGoOn = (terms : Terms) (hs more : List ℕ) (b : Board FlatState)
+    → last_turns (machine_in terms) terms (hs ++ more) b
+    ≡ option_and_then (last_turns (machine_in terms) terms more) (last_turns (machine_in terms) terms hs b)
+
 -- a board that turns of so many harts lead to, from the start of an image
 abbrev pub IsReachable : Terms → Image → ℕ → Supply → Board FlatState → Type 0
 IsReachable terms image harts supply b = Reached (machine_in terms) terms harts (flat_at_start image harts) supply b
@@ -146,17 +161,37 @@ RunsStay = (terms : Terms) (image : Image) (harts : ℕ) (supply : Supply) (g n 
     → IsWhole image → terms.pages ≡ image.pages → IsTurnFrom terms image harts supply g n b d → h ≢ g
     → AgreesIn terms x h b.at → AgreesIn terms x h d.at
 
--- so many moves of the hart from either lead to states with which one run agrees
+-- Moves of a hart leave all but itself, its count and the pages that it holds in Write, and the holders CREW; and its run is there.
+abbrev pub MovesLeaveOthers : Type 0
+MovesLeaveOthers = (terms : Terms) (x : Run) (h k : ℕ) (s t : Replay FlatState)
+    → IsOneRun x → AgreesIn terms x h s → IsCrewState (board (unit_in terms)) s → runs (machine_in terms) terms h k s ≡ Some t
+    → DifferFor (unit_in terms) h s t × IsCrewState (board (unit_in terms)) t × ((y : Run) × IsOneRun y × AgreesIn terms y h t)
+
+-- the hart's run is there, and each that agrees with it in one state agrees with it in the other
+pub record AgreesAlike (terms : Terms) (h : ℕ) (s t : Replay FlatState) : Type 0 where
+  pub run : (y : Run) × IsOneRun y × AgreesIn terms y h s
+  pub each : (y : Run) → AgreesIn terms y h s → AgreesIn terms y h t
+
+-- so many moves of the hart from either lead to states with which its run agrees alike
 abbrev pub MovesAgree : Terms → ℕ → Board FlatState → Board FlatState → Type 0
 MovesAgree terms h b d = (k : ℕ) (s : Replay FlatState) → runs (machine_in terms) terms h k b.at ≡ Some s
-    → (t : Replay FlatState) × (runs (machine_in terms) terms h k d.at ≡ Some t)
-    × ((y : Run) × IsOneRun y × AgreesIn terms y h s × AgreesIn terms y h t)
+    → (t : Replay FlatState) × (runs (machine_in terms) terms h k d.at ≡ Some t) × AgreesAlike terms h s t
 
--- to this hart the boards are the same: its last order, its entries, its count, and its leg, move for move
+-- what a hart has of two states is the same: itself, its count, its modes of pages, and the bytes of those that it holds
+pub record HasSame (terms : Terms) (h : ℕ) (s t : Replay FlatState) : Type 0 where
+  pub same_hart : slice_get t.flat.harts h ≡ slice_get s.flat.harts h
+  pub same_count : slice_get t.flat.counts h ≡ slice_get s.flat.counts h
+  pub same_table : length t.holders ≡ length s.holders
+  pub same_modes : (page : ℕ) → held t.holders page h ≡ held s.holders page h
+  pub same_bytes : (page : ℕ) → IsSome (held s.holders page h)
+      → page_of (unit_in terms) t.flat.memory page ≡ page_of (unit_in terms) s.flat.memory page
+
+-- to this hart the boards are the same: its last order, its entries, its count, what it has, and its leg, move for move
 pub record IsSameTo (terms : Terms) (h : ℕ) (b d : Board FlatState) : Type 0 where
   pub same_order : last_order d h ≡ last_order b h
   pub same_entries : stream d h ≡ stream b h
   pub same_count : count (machine_in terms) terms d h ≡ count (machine_in terms) terms b h
+  pub same_part : HasSame terms h b.at d.at
   pub same_leg : whole_leg (machine_in terms) terms h d ≡ whole_leg (machine_in terms) terms h b
   pub moves_agree : MovesAgree terms h b d
 
@@ -173,6 +208,18 @@ LegsAre = (terms : Terms) (harts pages h until : ℕ) (s t : Replay FlatState) (
     → (is.moves ≡ leg (machine_in terms) terms h (until - (board (unit_in terms)).count s.flat h) s)
     × (runs (machine_in terms) terms h is.moves s ≡ Some t)
 
+-- So many moves within a count are of the leg up to it, and are counted.
+abbrev pub MovesAreOfLegs : Type 0
+MovesAreOfLegs = (terms : Terms) (harts pages h k until : ℕ) (s t : Replay FlatState) → IsPagedBoard harts pages s.flat
+    → runs (machine_in terms) terms h k s ≡ Some t → (board (unit_in terms)).count t.flat h ≤ until
+    → (k ≤ leg (machine_in terms) terms h (until - (board (unit_in terms)).count s.flat h) s)
+    × ((board (unit_in terms)).count s.flat h + k ≡ (board (unit_in terms)).count t.flat h)
+
+-- A leg that ends sooner is so many of its moves.
+abbrev pub LegsEndSooner : Type 0
+LegsEndSooner = (terms : Terms) (h k most : ℕ) (s : Replay FlatState)
+    → leg (machine_in terms) terms h (min k most) s ≡ min k (leg (machine_in terms) terms h most s)
+
 -- So the legs of a round, and those of the last turns, may be taken all at once before its first turn.
 abbrev pub LegsAtOnce : Type 0
 LegsAtOnce = (terms : Terms) (image : Image) (harts r : ℕ) (supply : Supply) (b : Board FlatState)
@@ -185,6 +232,38 @@ LastLegsAtOnce = (terms : Terms) (image : Image) (harts : ℕ) (supply : Supply)
     → IsWhole image → terms.pages ≡ image.pages → IsReachable terms image harts supply b
     → last_turns (machine_in terms) terms (below (length b.streams)) b
     ≡ last_with (machine_in terms) terms (λ h. whole_leg (machine_in terms) terms h b) (below (length b.streams)) b
+
+-- what closes a board in a turn: a store to STOP, a full log, or a console that fails
+abbrev pub IsOfTurn : Option Cause → Type 0
+IsOfTurn None = Unit {0}
+IsOfTurn (Some Stop) = Unit {0}
+IsOfTurn (Some Limit) = ⊥
+IsOfTurn (Some Full) = Unit {0}
+IsOfTurn (Some Cut) = ⊥
+IsOfTurn (Some Fault) = Unit {0}
+
+-- A turn closes a board by one of these.
+abbrev pub TurnsClose : Type 0
+TurnsClose = (terms : Terms) (image : Image) (harts : ℕ) (supply : Supply) (g n : ℕ) (b d : Board FlatState)
+    → terms.pages ≡ image.pages → IsTurnFrom terms image harts supply g n b d → b.closed ≡ None → IsOfTurn d.closed
+
+-- So a recording by a list is cut exactly where the list ended before the board was over.
+abbrev pub ListsAreCut : Type 0
+ListsAreCut = (terms : Terms) (image : Image) (harts : ℕ) (supply : Supply) (list : List (ℕ × ℕ)) (c : Board FlatState)
+    (r : Recorded FlatState) → terms.pages ≡ image.pages → OfHarts harts list
+    → listed (machine_in terms) terms list (first_board terms image harts supply) ≡ Some c
+    → recorded_by_list (machine_in terms) terms list (first_board terms image harts supply) ≡ Some r
+    → (r.log.cause ≡ Cut → is_over (machine_in terms) terms c ≡ false) × (is_over (machine_in terms) terms c ≡ false → r.log.cause ≡ Cut)
+
+-- And one in rounds never is.
+abbrev pub RoundsAreNotCut : Type 0
+RoundsAreNotCut = (terms : Terms) (image : Image) (harts : ℕ) (supply : Supply) (r : Recorded FlatState) → terms.pages ≡ image.pages
+    → IsRecordedInRounds (machine_in terms) terms (first_board terms image harts supply) r → r.log.cause ≢ Cut
+
+-- A board has one recording in rounds at most.
+abbrev pub RoundsAreOne : Type 0
+RoundsAreOne = (terms : Terms) (b : Board FlatState) (r s : Recorded FlatState) → IsRecordedInRounds (machine_in terms) terms b r
+    → IsRecordedInRounds (machine_in terms) terms b s → r ≡ s
 
 -- An entry adds its size to the log's.
 abbrev pub SizesGrow : Type 0

@@ -3,12 +3,14 @@
 #![tactic(auto)]
 
 ghost use Rattle.turn_laws.specs.Laws.{ClaimsAreOne, ClashesAreOne, ClosesExtend, ClosesLead, HoldsAreOne};
-ghost use Rattle.turn_laws.specs.Laws.{LastLegsAtOnce, LastTurnsExtend, LastTurnsLead, LegsAre, LegsAreShort};
-ghost use Rattle.turn_laws.specs.Laws.{LegsAtOnce, LegsStay, ListsExtend, ListsGoOn, ListsLead, MovesKeep, NeedsAreOne};
-ghost use Rattle.turn_laws.specs.Laws.{PollsBegin, PollsGrow, PollsStay, PollsTell, ReachedAreCrew, ReachedArePolled};
-ghost use Rattle.turn_laws.specs.Laws.{ReachedExtend, RecordingsExtend, RecordingsInRoundsExtend, RoundExtends};
-ghost use Rattle.turn_laws.specs.Laws.{RoundsExtend, RoundsLead, RunsStay, SizesBegin, SizesGrow, SizesStay};
-ghost use Rattle.turn_laws.specs.Laws.{StepsExtend, StepsGoOn, SweepsExtend, SweepsLead, TurnsAreShort, TurnsExtend};
+ghost use Rattle.turn_laws.specs.Laws.{LastLegsAtOnce, LastTurnsExtend, LastTurnsGoOn, LastTurnsLead, LegsAre};
+ghost use Rattle.turn_laws.specs.Laws.{LegsAreShort, LegsAtOnce, LegsEndSooner, LegsStay, ListsAreCut, ListsExtend};
+ghost use Rattle.turn_laws.specs.Laws.{ListsGoOn, ListsLead, MovesAreOfLegs, MovesKeep, MovesLeaveOthers};
+ghost use Rattle.turn_laws.specs.Laws.{NeedsAreOne, PollsBegin, PollsGrow, PollsStay, PollsTell, ReachedAreCrew};
+ghost use Rattle.turn_laws.specs.Laws.{ReachedArePolled, ReachedExtend, RecordingsExtend, RecordingsInRoundsExtend};
+ghost use Rattle.turn_laws.specs.Laws.{RoundExtends, RoundsAreNotCut, RoundsAreOne, RoundsExtend, RoundsLead};
+ghost use Rattle.turn_laws.specs.Laws.{RunsStay, SizesBegin, SizesGrow, SizesStay, StepsExtend, StepsGoOn};
+ghost use Rattle.turn_laws.specs.Laws.{SweepsExtend, SweepsGoOn, SweepsLead, TurnsAreShort, TurnsClose, TurnsExtend};
 ghost use Rattle.turn_laws.specs.Laws.{WaitsBegin, WaitsFollow, WaitsStay, WaitsTell};
 
 /// What console and clock give after a turn changes nothing of it; so code can know their answers as they come.
@@ -23,6 +25,8 @@ pub fn turns_extend()
     ensures recorded { RecordingsExtend }
     ensures recorded_in_rounds { RecordingsInRoundsExtend }
     ensures go_on { ListsGoOn }
+    ensures sweeps_go_on { SweepsGoOn }
+    ensures last_go_on { LastTurnsGoOn }
     ensures steps { StepsExtend }
     ensures steps_go_on { StepsGoOn }
 {}
@@ -43,8 +47,23 @@ pub fn legs_stay()
     ensures runs { RunsStay }
     ensures legs { LegsStay }
     ensures are { LegsAre }
+    ensures moves { MovesAreOfLegs }
+    ensures sooner { LegsEndSooner }
+    ensures others { MovesLeaveOthers }
     ensures at_once { LegsAtOnce }
     ensures last_at_once { LastLegsAtOnce }
+{}
+
+/// A turn closes a board by stop, a full log or a console that fails; so only a list that ends first is cut.
+pub fn causes_are_exact()
+    ensures turn { TurnsClose }
+    ensures list { ListsAreCut }
+    ensures rounds { RoundsAreNotCut }
+{}
+
+/// Of one board, and of what console and clock have to give, there is one recording in rounds.
+pub fn rounds_are_one()
+    ensures { RoundsAreOne }
 {}
 
 /// The size of the log is a running number: the frame's, and each entry's.

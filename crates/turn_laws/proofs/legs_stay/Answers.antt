@@ -1,4 +1,4 @@
-use Rattle.turn_laws.proofs.Legs.{reached_are_crew, runs_stay, legs_stay, leg_is}
+use Rattle.turn_laws.proofs.Legs.{reached_are_crew, runs_stay, legs_stay, leg_is, leg_sooner, moves_of_leg, runs_leave}
 use Rattle.turn_laws.proofs.LegsAtOnce.{legs_at_once, last_at_once}
 use Rattle.turn_laws.proofs.legs_stay.Goals as goal
 
@@ -15,6 +15,15 @@ returns-clause-legs c terms image harts supply g n h b d whole pages is there ot
 
 pub returns-clause-are : goal.returns-clause-are
 returns-clause-are c terms harts pages h until s t is good = leg_is terms harts pages h until t is.moves s good is.runs is.within is.ends
+
+pub returns-clause-moves : goal.returns-clause-moves
+returns-clause-moves c terms harts pages h k until s t good is within = moves_of_leg terms harts pages h until t k s good is within
+
+pub returns-clause-sooner : goal.returns-clause-sooner
+returns-clause-sooner c terms h k most s = leg_sooner terms h k most s
+
+pub returns-clause-others : goal.returns-clause-others
+returns-clause-others c terms x h k s t one a crew is = runs_leave terms h k x s t one (a, crew) is
 
 pub returns-clause-at_once : goal.returns-clause-at_once
 returns-clause-at_once c terms image harts r supply b whole pages reached = legs_at_once terms image harts supply whole pages r b reached

@@ -1,7 +1,8 @@
 use Rattle.turn_model.specs.Laws.{machine_in}
 use Rattle.turn_laws.proofs.MoreAnswers.{turn_carried, listed_carried, closed_carried, sweep_carried, round_carried, rounds_carried, last_carried}
 use Rattle.turn_laws.proofs.MoreAnswers.{list_recorded}
-use Rattle.turn_laws.proofs.MoreAnswers.{rounds_recorded, listed_behind, steps_extend, steps_go_on}
+use Rattle.turn_laws.proofs.MoreAnswers.{rounds_recorded, steps_extend, steps_go_on}
+use Rattle.turn_laws.proofs.GoingOn.{listed_behind, sweep_behind, last_behind}
 use Rattle.turn_laws.proofs.turns_extend.Goals as goal
 
 pub returns-clause-turn : goal.returns-clause-turn
@@ -33,6 +34,12 @@ returns-clause-recorded_in_rounds c terms = rounds_recorded (machine_in terms) t
 
 pub returns-clause-go_on : goal.returns-clause-go_on
 returns-clause-go_on c terms = listed_behind (machine_in terms) terms
+
+pub returns-clause-sweeps_go_on : goal.returns-clause-sweeps_go_on
+returns-clause-sweeps_go_on c terms = sweep_behind (machine_in terms) terms
+
+pub returns-clause-last_go_on : goal.returns-clause-last_go_on
+returns-clause-last_go_on c terms = last_behind (machine_in terms) terms
 
 pub returns-clause-steps : goal.returns-clause-steps
 returns-clause-steps c terms = steps_extend (machine_in terms) terms
