@@ -1,7 +1,7 @@
-ghost use Rattle.std.specs.Prelude.{◌≡◌, ◌<◌, ◌∷◌, []};
+ghost use Rattle.std.specs.Prelude.{◌≡◌, ◌<◌, ◌≤◌, ◌+◌, ◌∷◌, [], vec_len, vec_capacity};
 ghost use Rattle.std.specs.Thread.{IsSync};
 ghost use Rattle.turn_table.specs.Passes.{IsPassOf, IsIdle, harts_of, hart_of};
-ghost use Rattle.turn_table.specs.Tests.{AreBoth};
+ghost use Rattle.turn_table.specs.TestPasses.{AreBoth, AreFrom};
 
 use crate::{NoRoom, Parted, Pass, TurnTable};
 use std::process::Abort;
@@ -87,6 +87,36 @@ fn count<R: Wait>(
 /// The passes of a hart and of the next one.
 type Both = (Pass<Four>, Pass<Four>);
 
+/// The last two of the passes.
+fn last_two(table: &TurnTable<Four>, passes: &mut Vec<Pass<Four>>) -> Both
+    requires each { AreFrom table.now 0 passes.old.items }
+    requires two { 2 ≤ vec_len passes.old }
+    ensures each { AreFrom table.now 0 passes.new.items }
+    ensures both { AreBoth table.now (vec_len passes.new) result }
+    ensures count { vec_len passes.new + 2 ≡ vec_len passes.old }
+    ensures room { vec_capacity passes.old ≤ vec_capacity passes.new }
+{
+    let (Some(second), Some(first)) = (passes.pop(), passes.pop()) else {
+        unreachable!()
+    };
+    (first, second)
+}
+
+/// Puts two passes behind those of the harts before.
+fn put_back(table: &TurnTable<Four>, passes: &mut Vec<Pass<Four>>, both: Both)
+    requires each { AreFrom table.now 0 passes.old.items }
+    requires both { AreBoth table.now (vec_len passes.old) both }
+    requires room { vec_len passes.old + 2 ≤ vec_capacity passes.old }
+    ensures each { AreFrom table.now 0 passes.new.items }
+    ensures count { vec_len passes.new ≡ vec_len passes.old + 2 }
+    ensures room { vec_capacity passes.old ≤ vec_capacity passes.new }
+{
+    let (first, second) = both;
+    let (Ok(()), Ok(())) = (passes.push(first), passes.push(second)) else {
+        unreachable!()
+    };
+}
+
 /// Two threads, each with the pass of a hart, which has a thousand turns more than its number.
 fn side_by_side<R: Threads + Wait + Sync>(
     rt: &R,
@@ -106,14 +136,14 @@ fn side_by_side<R: Threads + Wait + Sync>(
             requires table { (harts_of table.now ≡ 4) × IsPassOf table.now first × IsIdle first }
             requires hart { (hart_of first ≡ hart) × (hart < 3) }
             ensures table { IsPassOf table.entry.now result × IsIdle result }
-            ensures hart { hart_of result ≡ hart.entry }
+            ensures hart { hart_of result ≡ hart }
         { count(rt, table, first, hart, 1000 + hart as u64) },
         move || -> Pass<Four>
             requires sync { IsSync R.row }
             requires table { (harts_of table.now ≡ 4) × IsPassOf table.now second × IsIdle second }
             requires hart { (hart_of second ≡ hart + 1) × (hart < 3) }
             ensures table { IsPassOf table.entry.now result × IsIdle result }
-            ensures hart { hart_of result ≡ hart.entry + 1 }
+            ensures hart { hart_of result ≡ hart + 1 }
         { count(rt, table, second, hart + 1, 1001 + hart as u64) },
     )
 }
@@ -161,20 +191,12 @@ fn a_board_goes_from_hand_to_hand(rt: HostRuntime) -> Result<(), Fail> {
             return Err("no memory".into());
         }
     };
-    let (Some(fourth), Some(third)) = (passes.pop(), passes.pop()) else {
-        unreachable!()
-    };
-    let (Some(mut second), Some(mut first)) = (passes.pop(), passes.pop()) else {
-        unreachable!()
-    };
-    one_after_the_other(&rt, &table, &mut first, &mut second);
-    let (low, high) = four_at_once(&rt, &table, (first, second), (third, fourth));
-    let (Ok(()), Ok(())) = (passes.push(low.0), passes.push(low.1)) else {
-        unreachable!()
-    };
-    let (Ok(()), Ok(())) = (passes.push(high.0), passes.push(high.1)) else {
-        unreachable!()
-    };
+    let high = last_two(&table, &mut passes);
+    let mut low = last_two(&table, &mut passes);
+    one_after_the_other(&rt, &table, &mut low.0, &mut low.1);
+    let (low, high) = four_at_once(&rt, &table, low, high);
+    put_back(&table, &mut passes, low);
+    put_back(&table, &mut passes, high);
     let board = table.close(passes);
     assert!(rt; board.has([1005, 1003, 1005, 1007]));
     Ok(())
