@@ -12,5 +12,14 @@ close-board-requires-clause-table g c = all_ready _ 0 _ c.put_back-2.ensures.eac
 pub close-board-requires-clause-every : goal.close-board-requires-clause-every
 close-board-requires-clause-every g c = λ h less. contains_each _ 0 h _ c.put_back-2.ensures.each (omega arith)
     (omega (
-      arith, less, c.harts.ensures, c.in-Ok.ensures.harts, c.in-Ok.ensures.count, c.last_two-high.ensures.count, c.last_two-low.ensures.count,
-      c.put_back.ensures.count, c.put_back-2.ensures.count, c.put_back-2.new.passes.ok.0))
+      arith,
+      less,
+      c.harts.ensures,
+      c.in-Ok.ensures.harts,
+      c.in-Ok.ensures.count,
+      c.last_two-high.ensures.count,
+      c.last_two-low.ensures.count,
+      c.put_back.ensures.count,
+      c.put_back-2.ensures.count,
+      c.put_back-2.new.passes.ok.0,
+    ))

@@ -19,7 +19,8 @@ returns-clause-both c =
     let whole = front t 0 less.items second (subst (AreFrom t 0) c.in-Some-Some.ensures.items c.requires.each) in
     let part = front t 0 left.items first (subst (AreFrom t 0) c.in-Some-Some.ensures'.items whole.0) in
     let here : 0 + length left.items ≡ vec_len left = omega (arith, left.ok.0) in
-    let beside : 0 + length less.items ≡ vec_len left + 1 = omega (arith, here, ap length c.in-Some-Some.ensures'.items, length-append left.items (first ∷ [])) in
+    let beside : 0 + length less.items ≡ vec_len left + 1 =
+    omega (arith, here, ap length c.in-Some-Some.ensures'.items, length-append left.items (first ∷ [])) in
     record {
       first = subst (λ h. IsReady t h first) here part.1;
       second = subst (λ h. IsReady t h second) beside whole.1;
