@@ -1,0 +1,7 @@
+mod Numbers
+mod States
+mod Reaching
+mod Setting
+mod Turned
+mod OtherParts
+pub mod Laws

@@ -1,0 +1,34 @@
+//! The recorder's board as plain data, what each hart has of it, and what a turn is on both (docs/recorder.md):
+//! definitions and laws. The functions have no bodies: they promise the laws.
+#![tactic(auto)]
+
+ghost use Rattle.crew_parts.specs.Laws.{StatesAre, FirstBoards, BoardsAreSound, NothingIsChanged, LeftIsFree};
+ghost use Rattle.crew_parts.specs.Laws.{TurnsReach, MovesAreTold, PartsStay, BoardsSet};
+
+/// The state that plain data stand for, which nothing stores, is the one to which the turns led. Before any turn it is
+/// the image's start.
+pub fn states_are()
+    ensures reached { StatesAre }
+    ensures first { FirstBoards }
+{}
+
+/// What holds of every board that turns led to.
+pub fn boards_are_sound()
+    ensures sound { BoardsAreSound }
+    ensures set { BoardsSet }
+{}
+
+/// A turn of which the answers are known is a turn whatever is answered later, and leads to a board that turns led to;
+/// its moves are those by which the part was advanced.
+pub fn turns_are_known()
+    ensures left { LeftIsFree }
+    ensures reach { TurnsReach }
+    ensures moves { MovesAreTold }
+{}
+
+/// A turn of one hart leaves the parts of all others, and what only names the favoured hart or closes the board leaves
+/// every part.
+pub fn parts_stay()
+    ensures others { PartsStay }
+    ensures all { NothingIsChanged }
+{}
