@@ -1,19 +1,41 @@
--- Where nothing fails a recording is done.
+-- Where nothing fails a recording is done, and an orderly log is listed.
 use Rattle.std.proofs.Common.{◌≡◌, ℕ, ◌<◌, Bool, true, false, List, length, Option, Some, None, Result, Ok, Err, IsSomeAnd, inl, inr, if◌then◌else◌, refl, sym, ap, ◌∙◌, subst, arith, true≢false, ⊎_elim}
 use Rattle.std.proofs.lemmas.Option.{none-some, same_Some}
 use Rattle.rv_words.specs.declared.shared.Cause.{Cause}
 use Rattle.rv_words.specs.declared.shared.Cause.TheVariants as causes
+use Rattle.std.specs.Prelude.{is_ok}
 use Rattle.outside.specs.Causes.{Rose}
 use Rattle.elf_image.specs.Rules.{broken_rule}
+use Rattle.command_words.specs.Grammar.{job_of}
 use Rattle.command_words.specs.declared.job.Job.{Job}
 use Rattle.recorder.specs.Sources.{Sources}
 use Rattle.recorder.specs.Turns.{FaultsOf}
 use Rattle.outside.specs.Seen.{SeenShelf, SeenSink}
-use Rattle.revirt_tool.specs.Serving.{Around}
+use Rattle.revirt_tool.specs.Serving.{Around, RecordsAs, TaskAs}
+use Rattle.revirt_tool.specs.Tasks.{Wish, Task, Records, Lists, task, task_of}
+use Rattle.revirt_tool.specs.Files.{longest}
+use Rattle.revirt_tool.specs.Listings.{InspectsAs, IsListing, IsLogOf}
+use Rattle.revirt_tool.proofs.Rooms.{not_judged}
+use Rattle.log_entry.specs.declared.log.Log.{Log}
+use Rattle.log_entry.specs.Room.{log_without_room}
+use Rattle.log_format.specs.Grammar.{spelling, reading}
+use Rattle.log_format.specs.Format.{Bad}
+use Rattle.revirt_tool.specs.declared.ending.File.TheVariants as files
 use Rattle.revirt_tool.specs.Closing.{PrintsOrFails, status_of, status_unprinted}
-use Rattle.revirt_tool.specs.Promise.{Wish, wish, wish_of, longest_image, KeepsRecording, is_fault}
-use Rattle.revirt_tool.specs.Complete.{IsComplete}
-use Rattle.revirt_tool.specs.declared.ending.Ending.TheVariants.{Usage, NotBuilt, TooLong, ImageRefused, NoMemory, ShelfFault, Kept}
+use Rattle.revirt_tool.specs.Promise.{KeepsRecording, is_fault}
+use Rattle.revirt_tool.specs.Complete.{AreDone, HasImage, HasLog, KeptAreLogs, NothingFailed}
+use Rattle.revirt_tool.specs.declared.ending.Ending.{Ending}
+use Rattle.revirt_tool.specs.declared.ending.Ending.TheVariants.{Usage, NotBuilt, TooLong, ImageRefused, Malformed, NoMemory, ShelfFault, Kept, Listed}
+
+abbrev ok_or : {X : Type 0} → X → Result X Bad → X
+ok_or other (Ok x) = x
+ok_or other (Err bad) = other
+
+same_ok : {X : Type 0} (x y : X) → ◌≡◌ {A = Result X Bad} (Ok x) (Ok y) → x ≡ y
+same_ok x y e = ap (ok_or x) e
+
+ok_isnt_err : {X : Type 0} (x : X) (bad : Bad) → ◌≡◌ {A = Result X Bad} (Ok x) (Err bad) → ⊥
+ok_isnt_err x bad e = true≢false (ap is_ok e)
 
 faulted : (cause : Cause) (o p : Sources) → true ≡ is_fault cause → FaultsOf cause o p → Rose o.console.faults p.console.faults
 faulted causes.Fault o p is rose = rose
@@ -25,11 +47,18 @@ faulted causes.Cut o p is kept = absurd (true≢false is)
 past : (most : ℕ) (held : Option (List ℕ)) (file : List ℕ) → held ≡ Some file → IsSomeAnd held (λ b. most < length b) → most < length file
 past most held file is long = subst (λ h. IsSomeAnd h (λ b. most < length b)) is long
 
-same_wish : (words : List (List ℕ)) (w v : Wish) → wish words ≡ Some w → wish words ≡ Some v → w ≡ v
-same_wish words w v one other = same_Some w v (sym one ∙ other)
+-- the words ask for one task
+same_task : (words : List (List ℕ)) (P : Task → Type 0) (a wanted : Task) → task words ≡ Some a → task words ≡ Some wanted → P a → P wanted
+same_task words P a wanted one other holds = subst P (same_Some a wanted (sym one ∙ other)) holds
+
+-- words that ask for a task are in the grammar
+in_grammar : (words : List (List ℕ)) (wanted : Task) (place : ℕ) → task words ≡ Some wanted → job_of words ≡ Err place → ⊥
+in_grammar words wanted place is bad =
+    none-some wanted (sym (ap (λ (r : Result Job ℕ). elim r [ Ok j ↦ task_of words j | Err place ↦ None ]) bad) ∙ is)
 
 -- a text that was printed, where the sink didn't fail
-printed : (text : List ℕ) (ok unprinted status : ℕ) (s t : SeenSink) → (Rose s.faults t.faults → ⊥) → PrintsOrFails text ok unprinted s t status → status ≡ ok
+printed : (text : List ℕ) (ok unprinted status : ℕ) (s t : SeenSink) → (Rose s.faults t.faults → ⊥) → PrintsOrFails text ok unprinted s t status
+    → status ≡ ok
 printed text ok unprinted status s t quiet (inl done) = done.1
 printed text ok unprinted status s t quiet (inr failed) = absurd (quiet failed.0.faults)
 
@@ -38,32 +67,126 @@ done : (report : List ℕ) (fault : Bool) (w : Wish) (s t : SeenShelf) (o p : So
 done report true w s t o p keeps quiet = absurd (quiet (faulted keeps.log.cause o p keeps.fault_is keeps.comes.faults))
 done report false w s t o p keeps quiet = refl
 
-pub complete : IsComplete
-complete words before after status (Usage place, ends, closes) image quiet =
-    absurd (none-some image.wanted (sym (ap (λ (r : Result Job ℕ). elim r [ Ok j ↦ wish_of words j | Err place ↦ None ]) ends.0) ∙ image.is))
-complete words before after status (NotBuilt, ends, closes) image quiet = absurd (none-some image.wanted (sym ends.1 ∙ image.is))
-complete words before after status (TooLong, ends, closes) image quiet =
-    let long = past longest_image (before.shelf.held image.wanted.image) image.file image.held
-    (subst (λ w. IsSomeAnd (before.shelf.held w.image) (λ b. longest_image < length b)) (same_wish words ends.0 image.wanted ends.1 image.is)
-    (ends.2.0 image.tells)) in
-    let within = image.within in
-    absurd (omega (arith, long, within))
-complete words before after status (ImageRefused rule, ends, closes) image quiet =
-    let refused = ends.2.0 in
-    let same = same_wish words ends.0 image.wanted ends.1 image.is in
-    let file : refused.file ≡ image.file = same_Some _ _ (sym (refused.fetched.held image.tells) ∙ ap (λ w. before.shelf.held w.image) same ∙ image.held) in
-    absurd (none-some rule
-    (sym image.accepted ∙ ap (λ f. broken_rule image.wanted.pages f) (sym file) ∙ ap (λ w. broken_rule w.pages refused.file) (sym same) ∙ refused.breaks))
-complete words before after status (NoMemory, ends, inl prints) image quiet = inr (printed _ 3 3 status before.sink after.sink quiet.sink prints)
-complete words before after status (NoMemory, ends, inr other) image quiet = absurd (true≢false (sym other.0))
-complete words before after status (ShelfFault, ends, closes) image quiet =
-    absurd (quiet.shelf (⊎_elim (λ fetch. fetch.0.rose) (λ unkept. unkept.fails.rose) ends.2))
-complete words before after status (Kept report fault, ends, inr other) image quiet = absurd (true≢false (sym other.0))
-complete words before after status (Kept report fault, ends, inl prints) image quiet =
-    let none = done report.items fault ends.0 before.shelf after.shelf before.sources after.sources ends.2 quiet.console in
-    inl (subst (λ f. PrintsOrFails report.items (if f then 5 else 0) (if f then 5 else 11) before.sink after.sink status → status ≡ 0) (sym none)
-    (λ x. printed _ 0 11 status before.sink after.sink quiet.sink x) (as_tests fault prints)) where
+-- what is asked for ended so, and no count rose
+module _ (words : List (List ℕ)) (before after : Around) (status : ℕ) (image : HasImage words before.shelf) (quiet : NothingFailed before after) where
+  abbrev Ended : Ending → Type 0
+  Ended ending = RecordsAs image.wanted before.shelf after.shelf before.sources after.sources ending
+
+  recorded : (ending : Ending) (a : Task) → task words ≡ Some a → TaskAs a before.shelf after.shelf before.sources after.sources ending → Ended ending
+  recorded ending a is ends =
+      same_task words (λ b. TaskAs b before.shelf after.shelf before.sources after.sources ending) a (Records image.wanted) is image.is ends
+
+  refused : (rule : ℕ) → Ended (ImageRefused rule) → ⊥
+  refused rule ends =
+      let refused = ends.0 in
+      let file : refused.file ≡ image.file = same_Some _ _ (sym (refused.fetched.held image.tells) ∙ image.held) in
+      none-some rule (sym image.accepted ∙ ap (λ f. broken_rule image.wanted.pages f) (sym file) ∙ refused.breaks)
+
+  long : Ended (TooLong files.Image) → ⊥
+  long ends =
+      let is = past (longest files.Image) (before.shelf.held image.wanted.image) image.file image.held (ends.0.0 image.tells) in
+      let within = image.within in
+      omega (arith, is, within)
+
+  kept : (text : List ℕ) (fault : Bool) → KeepsRecording image.wanted text fault before.shelf after.shelf before.sources after.sources
+      → PrintsOrFails text (if fault then 5 else 0) (if fault then 5 else 11) before.sink after.sink status → status ≡ 0
+  kept text fault keeps prints =
+      let none = done text fault image.wanted before.shelf after.shelf before.sources after.sources keeps quiet.console in
+      printed _ 0 11 status before.sink after.sink quiet.sink
+      (subst (λ f. PrintsOrFails text (if f then 5 else 0) (if f then 5 else 11) before.sink after.sink status) none prints)
+
+pub recordings_done : AreDone HasImage
+recordings_done words before after status (Usage place, ends, closes) image quiet =
+    absurd (in_grammar words (Records image.wanted) place image.is ends.0)
+recordings_done words before after status (NotBuilt, ends, closes) image quiet = absurd (none-some (Records image.wanted) (sym ends.1 ∙ image.is))
+recordings_done words before after status (TooLong files.Image, ends, closes) image quiet =
+    absurd (long words before after status image quiet (recorded words before after status image quiet (TooLong files.Image) ends.0 ends.1 ends.2))
+recordings_done words before after status (TooLong files.Log, ends, closes) image quiet =
+    absurd (recorded words before after status image quiet (TooLong files.Log) ends.0 ends.1 ends.2)
+recordings_done words before after status (ImageRefused rule, ends, closes) image quiet =
+    absurd (refused words before after status image quiet rule (recorded words before after status image quiet (ImageRefused rule) ends.0 ends.1 ends.2))
+recordings_done words before after status (Malformed offset rule, ends, closes) image quiet =
+    absurd (recorded words before after status image quiet (Malformed offset rule) ends.0 ends.1 ends.2)
+recordings_done words before after status (NoMemory, ends, inl prints) image quiet = inr (printed _ 3 3 status before.sink after.sink quiet.sink prints)
+recordings_done words before after status (NoMemory, ends, inr other) image quiet = absurd (true≢false (sym other.0))
+recordings_done words before after status (ShelfFault, ends, closes) image quiet =
+    absurd (quiet.shelf (⊎_elim (λ fetch. fetch.0.rose) (λ unkept. unkept.fails.rose)
+    (recorded words before after status image quiet ShelfFault ends.0 ends.1 ends.2)))
+recordings_done words before after status (Kept report fault, ends, inr other) image quiet = absurd (true≢false (sym other.0))
+recordings_done words before after status (Kept report fault, ends, inl prints) image quiet =
+    inl (kept words before after status image quiet report.items fault
+    (recorded words before after status image quiet (Kept report fault) ends.0 ends.1 ends.2) (as_tests fault prints)) where
       as_tests : (f : Bool) → PrintsOrFails report.items (status_of (Kept report f)) (status_unprinted (Kept report f)) before.sink after.sink status
           → PrintsOrFails report.items (if f then 5 else 0) (if f then 5 else 11) before.sink after.sink status
       as_tests true x = x
       as_tests false x = x
+recordings_done words before after status (Listed listing orderly, ends, closes) image quiet =
+    absurd (recorded words before after status image quiet (Listed listing orderly) ends.0 ends.1 ends.2)
+
+-- what is asked for ended so, and no count rose
+module _ (words : List (List ℕ)) (before after : Around) (status : ℕ) (log : HasLog words before.shelf) (quiet : NothingFailed before after) where
+  listed : (ending : Ending) (a : Task) → task words ≡ Some a → TaskAs a before.shelf after.shelf before.sources after.sources ending
+      → InspectsAs log.name before.shelf after.shelf ending
+  listed ending a is ends =
+      (same_task words (λ b. TaskAs b before.shelf after.shelf before.sources after.sources ending) a (Lists log.name) is log.is ends).0
+
+  -- the file that was fetched is the log's
+  fetched_is : (file : List ℕ) → before.shelf.held log.name ≡ Some file → reading file ≡ Ok (log_without_room log.log)
+  fetched_is file held = ap reading (same_Some file (spelling log.log) (sym held ∙ log.held)) ∙ log.again
+
+  log_long : InspectsAs log.name before.shelf after.shelf (TooLong files.Log) → ⊥
+  log_long ends =
+      let is = past (longest files.Log) (before.shelf.held log.name) (spelling log.log) log.held (ends.0 log.tells) in
+      let within = log.within in
+      omega (arith, is, within)
+
+  well_formed : (offset rule : ℕ) → InspectsAs log.name before.shelf after.shelf (Malformed offset rule) → ⊥
+  well_formed offset rule ends = ok_isnt_err _ _ (sym (fetched_is ends.0.file (ends.0.fetched.held log.tells)) ∙ ends.0.bad)
+
+  judged : (text : List ℕ) (read : Log) → reading (spelling log.log) ≡ Ok (log_without_room read) → IsListing read text false → ⊥
+  judged text read is listing =
+      let told = listing.judged in
+      not_judged log.log read told.rule told.hart told.entry (same_ok _ _ (sym log.again ∙ is)) log.orderly told.breaks
+
+  listed_log : (text : List ℕ) → ((read : Log) × IsLogOf log.name before.shelf read × IsListing read text false) → ⊥
+  listed_log text l =
+      judged text l.0 (ap reading (same_Some (spelling log.log) l.1.file (sym log.held ∙ l.1.fetched.held log.tells)) ∙ l.1.read) l.2
+
+pub listings_done : AreDone HasLog
+listings_done words before after status (Usage place, ends, closes) log quiet = absurd (in_grammar words (Lists log.name) place log.is ends.0)
+listings_done words before after status (NotBuilt, ends, closes) log quiet = absurd (none-some (Lists log.name) (sym ends.1 ∙ log.is))
+listings_done words before after status (TooLong files.Image, ends, closes) log quiet =
+    absurd (listed words before after status log quiet (TooLong files.Image) ends.0 ends.1 ends.2)
+listings_done words before after status (TooLong files.Log, ends, closes) log quiet =
+    absurd (log_long words before after status log quiet (listed words before after status log quiet (TooLong files.Log) ends.0 ends.1 ends.2))
+listings_done words before after status (ImageRefused rule, ends, closes) log quiet =
+    absurd (listed words before after status log quiet (ImageRefused rule) ends.0 ends.1 ends.2)
+listings_done words before after status (Malformed offset rule, ends, closes) log quiet =
+    absurd (well_formed words before after status log quiet offset rule
+    (listed words before after status log quiet (Malformed offset rule) ends.0 ends.1 ends.2))
+listings_done words before after status (NoMemory, ends, inl prints) log quiet = inr (printed _ 3 3 status before.sink after.sink quiet.sink prints)
+listings_done words before after status (NoMemory, ends, inr other) log quiet = absurd (true≢false (sym other.0))
+listings_done words before after status (ShelfFault, ends, closes) log quiet =
+    absurd (quiet.shelf (listed words before after status log quiet ShelfFault ends.0 ends.1 ends.2).rose)
+listings_done words before after status (Kept report fault, ends, closes) log quiet =
+    absurd (listed words before after status log quiet (Kept report fault) ends.0 ends.1 ends.2)
+listings_done words before after status (Listed listing true, ends, inl prints) log quiet =
+    inl (printed _ 0 11 status before.sink after.sink quiet.sink prints)
+listings_done words before after status (Listed listing false, ends, closes) log quiet =
+    absurd (listed_log words before after status log quiet listing.items
+    (listed words before after status log quiet (Listed listing false) ends.0 ends.1 ends.2).1)
+listings_done words before after status (Listed listing true, ends, inr other) log quiet = absurd (true≢false (sym other.0))
+
+pub kept_are_logs : KeptAreLogs
+kept_are_logs w text fault s t o p words keeps limit tells is =
+    let within = keeps.within in
+    record {
+      name = w.log;
+      is = is;
+      tells = tells;
+      log = keeps.log;
+      held = keeps.kept.log_held tells;
+      within = omega (arith, within, limit);
+      again = keeps.again;
+      orderly = keeps.orderly;
+    }

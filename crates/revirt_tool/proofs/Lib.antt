@@ -1,4 +1,5 @@
 pub mod Texts
 pub mod Recordings
 pub mod Wishes
+pub mod Rooms
 pub mod Completeness

@@ -35,10 +35,13 @@ use Rattle.recorder.specs.Sources.{Sources}
 use Rattle.recorder.specs.Turns.{Ends, GoesOn}
 use Rattle.recorder.specs.Kept.{RecordsRun, Comes}
 use Rattle.outside.specs.Seen.{SeenShelf, ToldBefore}
-use Rattle.revirt_tool.specs.Promise.{Wish, IsFetched, HoldsNow, EndsFull, AllEndThere, KeepsRecording, is_fault}
-use Rattle.revirt_tool.specs.Serving.{IsUntouched, KeepsAs, RecordsAs, FailsToKeep, ImageAs}
+use Rattle.revirt_tool.specs.Tasks.{Wish}
+use Rattle.revirt_tool.specs.Files.{IsFetched, IsUntouched}
+use Rattle.revirt_tool.specs.Promise.{HoldsNow, EndsFull, AllEndThere, KeepsRecording, is_fault}
+use Rattle.revirt_tool.specs.Serving.{KeepsAs, RecordsAs, FailsToKeep, ImageAs}
+use Rattle.revirt_tool.specs.declared.ending.File.TheVariants as files
 use Rattle.revirt_tool.specs.declared.ending.Ending.{Ending}
-use Rattle.revirt_tool.specs.declared.ending.Ending.TheVariants.{Usage, NotBuilt, TooLong, ImageRefused, NoMemory, ShelfFault, Kept}
+use Rattle.revirt_tool.specs.declared.ending.Ending.TheVariants.{Usage, NotBuilt, TooLong, ImageRefused, Malformed, NoMemory, ShelfFault, Kept, Listed}
 
 -- What is recorded is orderly, obeyed and replayed, at the unit of its log.
 module _ (limit : ℕ) (image : Image) (cause : Cause) (items : List Item) (r : SoloRecording FlatState)
@@ -93,7 +96,7 @@ agrees limit log_limit pages image causes.Fault r ends = goes_on limit r ends.0
 agrees limit log_limit pages image causes.Cut r ends = absurd ends
 
 keeps : (w : Wish) (file : List ℕ) (log : Log) (ended : Final) (text : List ℕ) (fault : Bool) (s t : SeenShelf) (o p : Sources)
-    → IsFetched w s file → broken_rule w.pages file ≡ None → Comes (image_of w.pages file) w.limit w.log_limit o p log ended
+    → IsFetched files.Image w.image s file → broken_rule w.pages file ≡ None → Comes (image_of w.pages file) w.limit w.log_limit o p log ended
     → HoldsNow w (spelling log) (ended.memory ++ ended.sent) s t → length (spelling log) ≡ size_of_log (unit_of log) log.streams
     → reading (spelling log) ≡ Ok (log_without_room log) → text ≡ report ended → fault ≡ is_fault ended.cause
     → KeepsRecording w text fault s t o p
@@ -184,18 +187,23 @@ records w s m t o p image log ended (Kept text fault) read tells comes kept =
     (holds_since w (spelling log) (ended.memory ++ ended.sent) s m t read.0 tells kept.0) kept.1 kept.2 kept.3 kept.4
 records w s m t o p image log ended (Usage place) read tells comes kept = absurd kept
 records w s m t o p image log ended NotBuilt read tells comes kept = absurd kept
-records w s m t o p image log ended TooLong read tells comes kept = absurd kept
+records w s m t o p image log ended (TooLong file) read tells comes kept = absurd kept
 records w s m t o p image log ended (ImageRefused rule) read tells comes kept = absurd kept
+records w s m t o p image log ended (Malformed offset rule) read tells comes kept = absurd kept
+records w s m t o p image log ended (Listed listing judged) read tells comes kept = absurd kept
 
 -- an image that isn't there for the run
 pub refuses : (w : Wish) (s t : SeenShelf) (o : Sources) (ending : Ending) → ImageAs w s t (Err ending) → RecordsAs w s t o o ending
-refuses w s t o TooLong read = (read.0, (read.1, refl))
+refuses w s t o (TooLong files.Image) read = (read, refl)
+refuses w s t o (TooLong files.Log) read = absurd read
 refuses w s t o (ImageRefused rule) read = (read.0, (read.1, refl))
 refuses w s t o NoMemory read = (read, inl refl)
 refuses w s t o ShelfFault read = inl (read, refl)
 refuses w s t o (Usage place) read = absurd read
 refuses w s t o NotBuilt read = absurd read
+refuses w s t o (Malformed offset rule) read = absurd read
 refuses w s t o (Kept text fault) read = absurd read
+refuses w s t o (Listed listing judged) read = absurd read
 
 -- its run has one hart, with one count
 pub one_count : (image : Image) (limit log_limit : ℕ) (log : Log) (ended : Final) → RecordsRun image limit log_limit log ended

@@ -1,10 +1,11 @@
 -- A printed text is that of its ending.
 use Rattle.std.proofs.Common.{◌≡◌, ℕ, List, inl, sym, subst}
-use Rattle.revirt_tool.specs.Lines.{usage_line, image_line}
+use Rattle.revirt_tool.specs.Lines.{usage_line, too_long_line, image_line, malformed_line}
 use Rattle.outside.specs.Seen.{SeenSink}
 use Rattle.revirt_tool.specs.Closing.{Closes, PrintsOrFails}
+use Rattle.revirt_tool.specs.declared.ending.File.{File}
 use Rattle.revirt_tool.specs.declared.ending.Ending.{Ending}
-use Rattle.revirt_tool.specs.declared.ending.Ending.TheVariants.{Usage, ImageRefused}
+use Rattle.revirt_tool.specs.declared.ending.Ending.TheVariants.{Usage, TooLong, ImageRefused, Malformed}
 
 pub as_ending : (e f : Ending) (s t : SeenSink) (status : ℕ) → e ≡ f → Closes f s t status → Closes e s t status
 as_ending e f s t status is closes = subst (λ x. Closes x s t status) (sym is) closes
@@ -13,6 +14,15 @@ pub as_usage : (e : Ending) (s t : SeenSink) (place status : ℕ) (text : List �
     → Closes e s t status
 as_usage e s t place status text is line prints = as_ending e (Usage place) s t status is (inl (subst (λ x. PrintsOrFails x 1 1 s t status) line prints))
 
+pub as_too_long : (e : Ending) (s t : SeenSink) (file : File) (status : ℕ) (text : List ℕ) → e ≡ TooLong file → text ≡ too_long_line file
+    → PrintsOrFails text 9 9 s t status → Closes e s t status
+as_too_long e s t file status text is line prints = as_ending e (TooLong file) s t status is (inl (subst (λ x. PrintsOrFails x 9 9 s t status) line prints))
+
 pub as_image : (e : Ending) (s t : SeenSink) (rule status : ℕ) (text : List ℕ) → e ≡ ImageRefused rule → text ≡ image_line rule → PrintsOrFails text 2 2 s t status
     → Closes e s t status
 as_image e s t rule status text is line prints = as_ending e (ImageRefused rule) s t status is (inl (subst (λ x. PrintsOrFails x 2 2 s t status) line prints))
+
+pub as_malformed : (e : Ending) (s t : SeenSink) (offset rule status : ℕ) (text : List ℕ) → e ≡ Malformed offset rule → text ≡ malformed_line offset rule
+    → PrintsOrFails text 6 6 s t status → Closes e s t status
+as_malformed e s t offset rule status text is line prints =
+    as_ending e (Malformed offset rule) s t status is (inl (subst (λ x. PrintsOrFails x 6 6 s t status) line prints))

@@ -2,38 +2,44 @@
 use Rattle.std.specs.Prelude.{ℕ, ◌≡◌, ◌⊎◌, Bool, true, false, List, codes, if◌then◌else◌}
 use Rattle.outside.specs.Causes.{Rose}
 use Rattle.outside.specs.Seen.{SeenSink, Writes, WritesPart}
-use Rattle.revirt_tool.specs.Lines.{usage_line, image_line, no_memory_line}
+use Rattle.revirt_tool.specs.Lines.{usage_line, too_long_line, image_line, malformed_line, no_memory_line}
 use Rattle.revirt_tool.specs.declared.ending.Ending.{Ending}
-use Rattle.revirt_tool.specs.declared.ending.Ending.TheVariants.{Usage, NotBuilt, TooLong, ImageRefused, NoMemory, ShelfFault, Kept}
+use Rattle.revirt_tool.specs.declared.ending.Ending.TheVariants.{Usage, NotBuilt, TooLong, ImageRefused, Malformed, NoMemory, ShelfFault, Kept, Listed}
 
 abbrev pub text_of : Ending → List ℕ
 text_of (Usage place) = usage_line place
 text_of NotBuilt = codes "not built\n"
-text_of TooLong = codes "too long: image\n"
+text_of (TooLong file) = too_long_line file
 text_of (ImageRefused rule) = image_line rule
+text_of (Malformed offset rule) = malformed_line offset rule
 text_of NoMemory = no_memory_line
 text_of ShelfFault = codes "shelf fault\n"
 text_of (Kept report fault) = report.items
+text_of (Listed listing orderly) = listing.items
 
 -- the status, where the text was printed
 abbrev pub status_of : Ending → ℕ
 status_of (Usage place) = 1
 status_of NotBuilt = 12
-status_of TooLong = 9
+status_of (TooLong file) = 9
 status_of (ImageRefused rule) = 2
+status_of (Malformed offset rule) = 6
 status_of NoMemory = 3
 status_of ShelfFault = 4
 status_of (Kept report fault) = if fault then 5 else 0
+status_of (Listed listing orderly) = if orderly then 0 else 7
 
 -- and where the sink failed
 abbrev pub status_unprinted : Ending → ℕ
 status_unprinted (Kept report false) = 11
+status_unprinted (Listed listing true) = 11
 status_unprinted ending = status_of ending
 
--- the line has a number, for whose digits memory is asked
+-- the line has numbers, for whose digits memory is asked
 abbrev pub has_number : Ending → Bool
 has_number (Usage place) = true
 has_number (ImageRefused rule) = true
+has_number (Malformed offset rule) = true
 has_number ending = false
 
 -- the sink gained exactly this text

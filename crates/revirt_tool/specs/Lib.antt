@@ -1,4 +1,7 @@
+pub mod Tasks
+pub mod Files
 pub mod Lines
+pub mod Listings
 pub mod Closing
 pub mod Promise
 pub mod Serving

@@ -1,5 +1,5 @@
 -- What recording a run of one hart keeps and reports: the promise of the program (docs/recorder.md, docs/replay.md).
-use Rattle.std.specs.Prelude.{ℕ, zero, suc, ◌≡◌, ◌≢◌, ◌≤◌, ◌++◌, ◌∷◌, [], Bool, true, false, List, length, replicate, Option, Some, None, option_map, IfSome, IsTrue, Ok, Err}
+use Rattle.std.specs.Prelude.{ℕ, ◌≡◌, ◌≢◌, ◌≤◌, ◌++◌, ◌∷◌, [], Bool, true, false, List, length, replicate, Some, None, IfSome, IsTrue, Ok}
 use Rattle.outside.specs.Seen.{SeenShelf, Holds}
 use Rattle.rv_words.specs.declared.shared.Cause.{Cause}
 use Rattle.rv_words.specs.declared.shared.Cause.TheVariants as causes
@@ -23,56 +23,9 @@ use Rattle.replay_model.specs.Outcome.{Done, IsOutcome}
 use Rattle.recorder.specs.Sources.{Sources}
 use Rattle.recorder.specs.Kept.{Comes}
 use Rattle.report_view.specs.Report.{report}
-use Rattle.command_words.specs.Texts.{word_at}
-use Rattle.command_words.specs.Grammar.{job_of}
-use Rattle.command_words.specs.declared.job.Job.{Job}
-use Rattle.command_words.specs.declared.job.Job.TheVariants.{Record}
-use Rattle.revirt_tool.specs.declared.recording.Request.{Request}
-
--- what the words of a recording ask for
-pub record Wish : Type 0 where
-  pub image : List ℕ
-  pub log : List ℕ
-  pub dump : Option (List ℕ)
-  pub pages : ℕ
-  pub limit : ℕ
-  pub log_limit : ℕ
-
--- a wish by its names
-abbrev pub wish_by : Request → Wish
-wish_by r = record {
-  image = r.image.now;
-  log = r.log.now;
-  dump = option_map (λ d. d.now) r.dump;
-  pages = r.pages;
-  limit = r.limit;
-  log_limit = r.log_limit;
-}
-
--- a recording of one hart is served
-abbrev pub wish_of : List (List ℕ) → Job → Option Wish
-wish_of words (Record image log (suc zero) pages limit log_limit dump rounds) =
-    Some (record {
-      image = word_at words image;
-      log = word_at words log;
-      dump = option_map (word_at words) dump;
-      pages = pages;
-      limit = limit;
-      log_limit = log_limit;
-    })
-wish_of words job = None
-
-abbrev pub wish : List (List ℕ) → Option Wish
-wish words = elim (job_of words) [ Ok job ↦ wish_of words job | Err place ↦ None ]
-
--- the most bytes of an image file
-abbrev pub longest_image : ℕ
-longest_image = 67108864
-
--- the image that was fetched, which the shelf holds under its name, where it tells
-pub record IsFetched (w : Wish) (s : SeenShelf) (file : List ℕ) : Type 0 where
-  pub held : Holds s w.image file
-  pub within : length file ≤ longest_image
+use Rattle.revirt_tool.specs.Tasks.{Wish}
+use Rattle.revirt_tool.specs.Files.{IsFetched}
+use Rattle.revirt_tool.specs.declared.ending.File.TheVariants as files
 
 -- the log is of what the words ask and of the image's start, and has one stream
 pub record HasHead (w : Wish) (image : Image) (stream : List Entry) (log : Log) : Type 0 where
@@ -110,7 +63,7 @@ AllEndThere log image order end full =
 -- clock answered, and the bytes that the console took, are those of the log and of that state.
 pub record KeepsRecording (w : Wish) (text : List ℕ) (fault : Bool) (s t : SeenShelf) (o p : Sources) : Type 0 where
   pub file : List ℕ
-  pub fetched : IsFetched w s file
+  pub fetched : IsFetched files.Image w.image s file
   pub accepted : broken_rule w.pages file ≡ None
   pub log : Log
   pub entries : List Entry

@@ -1,7 +1,7 @@
 -- What a call does with the words, and with which status it answers (docs/command-line.md).
 use Rattle.std.specs.Prelude.{ℕ, ◌≡◌, ◌≢◌, ◌⊎◌, ◌++◌, IfSome, List, length, Some, None, IsTrue, IsOk, Err, Result, Ok}
 use Rattle.outside.specs.Causes.{Rose}
-use Rattle.outside.specs.Seen.{SeenShelf, SeenConsole, SeenClock, SeenSink, Holds, HoldsAsBefore, HoldsMore}
+use Rattle.outside.specs.Seen.{SeenShelf, SeenConsole, SeenClock, SeenSink, Holds}
 use Rattle.elf_image.specs.Image.{Image}
 use Rattle.elf_image.specs.Loading.{image_of}
 use Rattle.elf_image.specs.Rules.{broken_rule}
@@ -16,31 +16,25 @@ use Rattle.report_view.specs.Report.{report}
 use Rattle.recorder.specs.Kept.{Comes}
 use Rattle.recorder.specs.Sources.{Sources, sources}
 use Rattle.revirt_tool.specs.Closing.{Closes}
-use Rattle.revirt_tool.specs.Promise.{Wish, wish, longest_image, IsFetched, HoldsNow, KeepsRecording, is_fault}
+use Rattle.revirt_tool.specs.Tasks.{Wish, Task, Records, Lists, task}
+use Rattle.revirt_tool.specs.Files.{IsFetched, IsUntouched, FailsToFetch, IsTooLong}
+use Rattle.revirt_tool.specs.Listings.{InspectsAs}
+use Rattle.revirt_tool.specs.Promise.{HoldsNow, KeepsRecording, is_fault}
+use Rattle.revirt_tool.specs.declared.ending.File.TheVariants as files
 use Rattle.revirt_tool.specs.declared.ending.Ending.{Ending}
 use Rattle.revirt_tool.specs.declared.ending.Ending.TheVariants.{Usage, NotBuilt, TooLong, ImageRefused, NoMemory, ShelfFault, Kept}
-
--- nothing was kept: each name holds what it held, and no call failed
-pub record IsUntouched (s t : SeenShelf) : Type 0 where
-  pub held : HoldsAsBefore s t
-  pub faults : t.faults ≡ s.faults
 
 -- a recording whose image was fetched and breaks a rule
 pub record IsRefused (w : Wish) (s : SeenShelf) (rule : ℕ) : Type 0 where
   pub file : List ℕ
-  pub fetched : IsFetched w s file
+  pub fetched : IsFetched files.Image w.image s file
   pub breaks : broken_rule w.pages file ≡ Some rule
 
 -- the fetched image breaks no rule, so that a run was begun
 pub record IsAccepted (w : Wish) (s : SeenShelf) : Type 0 where
   pub file : List ℕ
-  pub fetched : IsFetched w s file
+  pub fetched : IsFetched files.Image w.image s file
   pub accepted : broken_rule w.pages file ≡ None
-
--- the fetch failed, and nothing was kept
-pub record FailsToFetch (s t : SeenShelf) : Type 0 where
-  pub rose : Rose s.faults t.faults
-  pub held : HoldsAsBefore s t
 
 -- keeping failed at the log, and the dump's name holds what it held, or at the dump, and the log is kept; other names are as before
 pub record FailsToKeep (w : Wish) (log : List ℕ) (s t : SeenShelf) : Type 0 where
@@ -51,31 +45,23 @@ pub record FailsToKeep (w : Wish) (log : List ℕ) (s t : SeenShelf) : Type 0 wh
 -- a run was recorded that couldn't be kept
 pub record IsUnkept (w : Wish) (s t : SeenShelf) (o p : Sources) : Type 0 where
   pub file : List ℕ
-  pub fetched : IsFetched w s file
+  pub fetched : IsFetched files.Image w.image s file
   pub accepted : broken_rule w.pages file ≡ None
   pub log : Log
   pub ended : Final
   pub comes : Comes (image_of w.pages file) w.limit w.log_limit o p log ended
   pub fails : FailsToKeep w (spelling log) s t
 
--- nothing was kept, and neither console nor clock were asked
+-- nothing was kept, and neither console nor clock was asked
 abbrev pub IsRefusal : SeenShelf → SeenShelf → Sources → Sources → Type 0
 IsRefusal s t o p = IsUntouched s t × (p ≡ o)
-
--- what fetching the image's file comes to
-abbrev pub FileAs : {B : Type 0} → (B → List ℕ) → Wish → SeenShelf → SeenShelf → Result B Ending → Type 0
-FileAs bytes w s t (Ok file) = IsUntouched s t × IsFetched w s (bytes file)
-FileAs bytes w s t (Err TooLong) = HoldsMore s w.image longest_image × IsUntouched s t
-FileAs bytes w s t (Err NoMemory) = IsUntouched s t
-FileAs bytes w s t (Err ShelfFault) = FailsToFetch s t
-FileAs bytes w s t (Err ending) = ⊥
 
 -- what fetching and reading the image comes to
 abbrev pub ImageAs : Wish → SeenShelf → SeenShelf → Result Image Ending → Type 0
 ImageAs w s t (Ok image) =
     IsUntouched s t
-    × ((file : List ℕ) × IsFetched w s file × (broken_rule w.pages file ≡ None) × (image ≡ image_of w.pages file))
-ImageAs w s t (Err TooLong) = HoldsMore s w.image longest_image × IsUntouched s t
+    × ((file : List ℕ) × IsFetched files.Image w.image s file × (broken_rule w.pages file ≡ None) × (image ≡ image_of w.pages file))
+ImageAs w s t (Err (TooLong files.Image)) = IsTooLong files.Image w.image s t
 ImageAs w s t (Err (ImageRefused rule)) = IsRefused w s rule × IsUntouched s t
 ImageAs w s t (Err NoMemory) = IsUntouched s t
 ImageAs w s t (Err ShelfFault) = FailsToFetch s t
@@ -95,18 +81,23 @@ KeepsAs w log ended s t ending = ⊥
 
 -- how a recording ends
 abbrev pub RecordsAs : Wish → SeenShelf → SeenShelf → Sources → Sources → Ending → Type 0
-RecordsAs w s t o p TooLong = HoldsMore s w.image longest_image × IsRefusal s t o p
+RecordsAs w s t o p (TooLong files.Image) = IsTooLong files.Image w.image s t × (p ≡ o)
 RecordsAs w s t o p (ImageRefused rule) = IsRefused w s rule × IsRefusal s t o p
 RecordsAs w s t o p NoMemory = IsUntouched s t × ((p ≡ o) ⊎ IsAccepted w s)
 RecordsAs w s t o p ShelfFault = (FailsToFetch s t × (p ≡ o)) ⊎ IsUnkept w s t o p
 RecordsAs w s t o p (Kept report fault) = KeepsRecording w report.items fault s t o p
 RecordsAs w s t o p ending = ⊥
 
--- how the words end: outside the grammar, in a command that isn't built, or in a recording
+-- how what the words ask for ends; a listing asks neither console nor clock
+abbrev pub TaskAs : Task → SeenShelf → SeenShelf → Sources → Sources → Ending → Type 0
+TaskAs (Records w) s t o p ending = RecordsAs w s t o p ending
+TaskAs (Lists name) s t o p ending = InspectsAs name s t ending × (p ≡ o)
+
+-- how the words end: outside the grammar, in a command that isn't built, or in what they ask for
 abbrev pub EndsAs : List (List ℕ) → SeenShelf → SeenShelf → Sources → Sources → Ending → Type 0
 EndsAs words s t o p (Usage place) = (job_of words ≡ Err place) × IsRefusal s t o p
-EndsAs words s t o p NotBuilt = IsOk (job_of words) × (wish words ≡ None) × IsRefusal s t o p
-EndsAs words s t o p ending = (w : Wish) × (wish words ≡ Some w) × RecordsAs w s t o p ending
+EndsAs words s t o p NotBuilt = IsOk (job_of words) × (task words ≡ None) × IsRefusal s t o p
+EndsAs words s t o p ending = (a : Task) × (task words ≡ Some a) × TaskAs a s t o p ending
 
 -- what is seen around a call: of the shelf, of console and clock, and of the sink of the report
 pub record Around : Type 0 where

@@ -1,10 +1,18 @@
 //! How a command ends: its status, and the text that it prints.
 
 ghost use Rattle.std.specs.Prelude.{◌≡◌, List, ℕ};
+ghost use Rattle.revirt_tool.specs.Lines.{too_long_line};
 ghost use Rattle.revirt_tool.specs.Closing.{PrintsOrFails, Closes};
 
-use outside::Sink;
+use outside::{Clock, Console, Sink};
 use std::alloc::Global;
+
+/// A file that a command fetches.
+#[derive(Clone, Copy, Debug, PartialEq, Eq)]
+pub enum File {
+    Image,
+    Log,
+}
 
 /// How a command ends, before its text is printed.
 #[derive(Drop)]
@@ -12,13 +20,36 @@ pub enum Ending {
     /// The word at this place can't stand there, or is missing.
     Usage { place: u64 },
     NotBuilt,
-    TooLong,
+    /// This file is longer than it may be.
+    TooLong { file: File },
     /// The least rule that the image breaks.
     ImageRefused { rule: u8 },
+    /// The first bad field of the log, by its offset, and the rule that it breaks.
+    Malformed { offset: u64, rule: u8 },
     NoMemory,
     ShelfFault,
     /// The run's report, and whether the console failed in the run.
     Kept { report: Vec<u8>, fault: bool },
+    /// The listing of a log, and whether the log is orderly.
+    Listed { listing: Vec<u8>, orderly: bool },
+}
+
+/// How a command ended, with the console and the clock that were handed in.
+pub(crate) struct Ended<C: Console, K: Clock> {
+    pub ending: Ending,
+    pub console: C,
+    pub clock: K,
+}
+
+/// An ending without a run: the console and the clock go back as they came.
+pub(crate) fn without_run<C: Console, K: Clock>(ending: Ending, console: C, clock: K) -> Ended<C, K>
+    ensures { result ≡ record { ending = ending; console = console; clock = clock } }
+{
+    Ended {
+        ending,
+        console,
+        clock,
+    }
 }
 
 /// Prints a text, and gives the status where it is printed, or the other one.
@@ -28,6 +59,15 @@ fn print<R: Sink>(text: &[u8], printed: u8, failed: u8, report: &mut R) -> u8
     match report.put(text) {
         Ok(()) => printed,
         Err(_) => failed,
+    }
+}
+
+fn too_long(file: File) -> &'static [u8]
+    ensures { result.now ≡ too_long_line file }
+{
+    match file {
+        File::Image => b"too long: image\n",
+        File::Log => b"too long: log\n",
     }
 }
 
@@ -41,11 +81,17 @@ pub(crate) fn close<R: Sink>(alloc: Global, ending: Ending, report: &mut R) -> u
             Err(_) => print(b"no memory\n", 3, 3, report),
         },
         Ending::NotBuilt => print(b"not built\n", 12, 12, report),
-        Ending::TooLong => print(b"too long: image\n", 9, 9, report),
+        Ending::TooLong { file } => print(too_long(file), 9, 9, report),
         Ending::ImageRefused { rule } => match format!(in alloc; "image refused: I{rule}\n") {
             Ok(line) => print(line.as_bytes(), 2, 2, report),
             Err(_) => print(b"no memory\n", 3, 3, report),
         },
+        Ending::Malformed { offset, rule } => {
+            match format!(in alloc; "malformed: offset {offset} rule M{rule}\n") {
+                Ok(line) => print(line.as_bytes(), 6, 6, report),
+                Err(_) => print(b"no memory\n", 3, 3, report),
+            }
+        }
         Ending::NoMemory => print(b"no memory\n", 3, 3, report),
         Ending::ShelfFault => print(b"shelf fault\n", 4, 4, report),
         Ending::Kept {
@@ -54,6 +100,10 @@ pub(crate) fn close<R: Sink>(alloc: Global, ending: Ending, report: &mut R) -> u
         } => {
             let (printed, failed) = if fault { (5, 5) } else { (0, 11) };
             print(text.as_slice(), printed, failed, report)
+        }
+        Ending::Listed { listing, orderly } => {
+            let (printed, failed) = if orderly { (0, 11) } else { (7, 7) };
+            print(listing.as_slice(), printed, failed, report)
         }
     }
 }

@@ -1,7 +1,11 @@
-//! Records a run of a RISC-V board (docs/command-line.md).
+//! Records runs of a RISC-V board, and lists what their logs say (docs/command-line.md).
 #![tactic(auto)]
 
 mod ending;
+mod fetching;
+mod inspecting;
+#[cfg(test)]
+mod listing_tests;
 mod recording;
 #[cfg(test)]
 mod tests;
@@ -11,7 +15,7 @@ use outside::{FileShelf, OpenGate, RealClock, Sink, StdConsole, StdSink};
 use std::env;
 use std::io::ErrorKind;
 use std::process::ExitCode;
-pub use top::{Finish, recordings_are_done, revirt, revirt_still};
+pub use top::{Finish, listings_are_done, recordings_are_done, revirt, revirt_still};
 
 /// Prints a line before there are objects for the top call, and gives its status.
 fn refuse(rt: HostRuntime, line: &[u8], status: u8) -> ExitCode {

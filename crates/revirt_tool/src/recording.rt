@@ -7,21 +7,19 @@ ghost use Rattle.log_entry.specs.Range.{in_range};
 ghost use Rattle.outside.specs.Causes.{HasCause};
 ghost use Rattle.outside.specs.Seen.{ToldBefore, Holds, OthersHold};
 ghost use Rattle.recorder.specs.Sources.{sources};
-ghost use Rattle.revirt_tool.specs.Promise.{wish_by};
-ghost use Rattle.revirt_tool.specs.Serving.{FileAs, ImageAs, KeepsAs, RecordsAs};
+ghost use Rattle.revirt_tool.specs.Tasks.{wish_by};
+ghost use Rattle.revirt_tool.specs.Serving.{ImageAs, KeepsAs, RecordsAs};
 
-use crate::ending::Ending;
+use crate::ending::{Ended, Ending, File, without_run};
+use crate::fetching::file_for;
 use elf_image::{Image, ImageError, read_image};
 use flat_machine::Final;
 use log_entry::{Cause, Log};
 use log_format::write_log;
-use outside::{Clock, Console, Failed, FetchError, Shelf, keep};
+use outside::{Clock, Console, Failed, Shelf, keep};
 use recorder::{OutOfMemory, SoloRecorded, record_one};
 use report_view::report_text;
 use std::alloc::Global;
-
-/// The most bytes of an image file.
-const LONGEST_IMAGE: u64 = 67_108_864;
 
 /// What a recording is asked for: its files, the board's pages, and the limits of moves and of log bytes.
 #[derive(Clone, Copy, Drop)]
@@ -32,24 +30,6 @@ pub(crate) struct Request<'a> {
     pub pages: u16,
     pub limit: u64,
     pub log_limit: u64,
-}
-
-/// How a recording ended, with the console and the clock that were handed in.
-pub(crate) struct Ended<C: Console, K: Clock> {
-    pub ending: Ending,
-    pub console: C,
-    pub clock: K,
-}
-
-/// An ending without a run: the console and the clock go back as they came.
-pub(crate) fn without_run<C: Console, K: Clock>(ending: Ending, console: C, clock: K) -> Ended<C, K>
-    ensures { result ≡ record { ending = ending; console = console; clock = clock } }
-{
-    Ended {
-        ending,
-        console,
-        clock,
-    }
 }
 
 /// Keeps the dump: the memory, and then the bytes sent to the console.
@@ -101,21 +81,6 @@ fn keep_run<S: Shelf>(
     }
 }
 
-/// The file of the image.
-fn file_for<S: Shelf>(alloc: Global, request: &Request, shelf: &mut S) -> Result<Vec<u8>, Ending>
-    requires { S.has shelf.old request.now.image.now }
-    ensures writing { (S.seen shelf.new).writing ≡ (S.seen shelf.old).writing }
-    ensures tells { ToldBefore (S.seen shelf.old).tells (S.seen shelf.new).tells }
-    ensures file { FileAs (λ v. v.items) (wish_by request.now) (S.seen shelf.old) (S.seen shelf.new) result }
-{
-    match shelf.fetch(alloc, request.image, LONGEST_IMAGE) {
-        Ok(file) => Ok(file),
-        Err(FetchError::Failed) => Err(Ending::ShelfFault),
-        Err(FetchError::TooLong) => Err(Ending::TooLong),
-        Err(FetchError::NoMemory) => Err(Ending::NoMemory),
-    }
-}
-
 /// The image that is asked for.
 fn image_for<S: Shelf>(alloc: Global, request: &Request, shelf: &mut S) -> Result<Image, Ending>
     requires has { S.has shelf.old request.now.image.now }
@@ -125,7 +90,7 @@ fn image_for<S: Shelf>(alloc: Global, request: &Request, shelf: &mut S) -> Resul
     ensures tells { ToldBefore (S.seen shelf.old).tells (S.seen shelf.new).tells }
     ensures image { ImageAs (wish_by request.now) (S.seen shelf.old) (S.seen shelf.new) result }
 {
-    let file = match file_for(alloc, request, shelf) {
+    let file = match file_for(alloc, File::Image, request.image, shelf) {
         Ok(file) => file,
         Err(ending) => return Err(ending),
     };

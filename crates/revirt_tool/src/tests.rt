@@ -48,7 +48,7 @@ fn plain_row(line: &'static str, guest: &'static [u32], status: u8, lines: &'sta
 }
 
 /// LUI x1; ADDI x2 = 7; SW to STOP.
-fn smallest() -> &'static [u32] {
+pub(crate) fn smallest() -> &'static [u32] {
     &[0x1000_00b7, 0x0070_0113, 0x0020_a423]
 }
 
@@ -215,7 +215,7 @@ fn failing_shelves() -> [Row; 9] {
 }
 
 /// Commands that are refused before anything is begun.
-fn refusals() -> [Row; 12] {
+fn refusals() -> [Row; 11] {
     [
         plain_row("", smallest(), 1, "usage: word 0"),
         plain_row("record g", smallest(), 1, "usage: word 2"),
@@ -226,14 +226,13 @@ fn refusals() -> [Row; 12] {
         plain_row("replay g l --one --rounds", smallest(), 1, "usage: word 4"),
         plain_row("record g l --harts 2", smallest(), 12, "not built"),
         plain_row("replay g l", smallest(), 12, "not built"),
-        plain_row("inspect l", smallest(), 12, "not built"),
         plain_row("trace g l 0 0 3", smallest(), 12, "not built"),
         plain_row("sample 7", smallest(), 12, "not built"),
     ]
 }
 
 /// The words as bytes, little-endian, in order.
-fn bytes_of(alloc: Global, words: &[u32]) -> Result<Vec<u8>, Fail> {
+pub(crate) fn bytes_of(alloc: Global, words: &[u32]) -> Result<Vec<u8>, Fail> {
     let mut bytes = Vec::new(alloc);
     for word in words {
         bytes.extend_from_slice(&word.to_le_bytes())?;
@@ -241,7 +240,7 @@ fn bytes_of(alloc: Global, words: &[u32]) -> Result<Vec<u8>, Fail> {
     Ok(bytes)
 }
 
-fn words_of(alloc: Global, line: &str) -> Result<Vec<String>, Fail> {
+pub(crate) fn words_of(alloc: Global, line: &str) -> Result<Vec<String>, Fail> {
     let mut words = Vec::new(alloc);
     for word in line.split_ascii_whitespace() {
         words.push(String::from_str(alloc, word)?)?;
@@ -420,7 +419,7 @@ fn refused_commands_begin_nothing(rt: HostRuntime) -> Result<(), Fail> {
 }
 
 /// The log of the smallest guest, with limit 100.
-fn smallest_log() -> [u8; 123] {
+pub(crate) fn smallest_log() -> [u8; 123] {
     [
         0x52, 0x56, 0x54, 0x4c, 1, 1, 1, 0, // magic, version, harts, pages
         100, 0, 0, 0, 0, 0, 0, 0, // limit
@@ -584,7 +583,7 @@ fn refuses<T: Threads + Wait + Sync>(
 }
 
 /// The first bytes of a file, and none where it has fewer.
-fn first_of(file: &[u8], many: usize) -> &[u8] {
+pub(crate) fn first_of(file: &[u8], many: usize) -> &[u8] {
     match file.get(..many) {
         Some(bytes) => bytes,
         None => &[],

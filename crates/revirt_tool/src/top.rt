@@ -1,15 +1,16 @@
 //! The top call: what the words ask for, over the objects that are handed in.
 
-ghost use Rattle.std.specs.Prelude.{◌≡◌, ◌<◌, IsTrue, IfSome, Some, None, false, length, option_map};
+ghost use Rattle.std.specs.Prelude.{◌≡◌, ◌<◌, ℕ, List, IsTrue, IfSome, Some, None, false, length, option_map};
 ghost use Rattle.command_words.specs.Texts.{texts, word_at};
 ghost use Rattle.command_words.specs.Grammar.{asks_free_run};
-ghost use Rattle.revirt_tool.specs.Promise.{Wish, wish};
+ghost use Rattle.revirt_tool.specs.Tasks.{Fetches, AsksNoRun};
 ghost use Rattle.revirt_tool.specs.Serving.{EndsAs, around, Serves};
 ghost use Rattle.recorder.specs.Sources.{sources};
-ghost use Rattle.revirt_tool.specs.Complete.{IsComplete};
+ghost use Rattle.revirt_tool.specs.Complete.{AreDone, HasImage, HasLog, KeptAreLogs};
 
-use crate::ending::{Ending, close};
-use crate::recording::{Ended, Request, record, without_run};
+use crate::ending::{Ended, Ending, close, without_run};
+use crate::inspecting::inspect;
+use crate::recording::{Request, record};
 use command_words::{Job, Usage, read_words};
 use outside::{Clock, Console, Gate, Shelf, Sink};
 use std::alloc::Global;
@@ -51,12 +52,12 @@ fn serve<S: Shelf, C: Console, K: Clock>(
     clock: K,
 ) -> Ended<C, K>
     requires writing { (S.seen shelf.old).writing ≡ false }
-    requires has { (w : Wish) → wish (texts words.now) ≡ Some w → S.has shelf.old w.image }
+    requires has { (name : List ℕ) → Fetches (texts words.now) name → S.has shelf.old name }
     ensures writing { (S.seen shelf.new).writing ≡ false }
     ensures ends { EndsAs (texts words.now) (S.seen shelf.old) (S.seen shelf.new)
         (sources (C.seen console) (K.seen clock)) (sources (C.seen result.console) (K.seen result.clock))
         result.ending }
-    ensures as_handed_in { wish (texts words.now) ≡ None → (result.console ≡ console) × (result.clock ≡ clock) }
+    ensures as_handed_in { AsksNoRun (texts words.now) → (result.console ≡ console) × (result.clock ≡ clock) }
 {
     match read_words(words) {
         Err(Usage { place }) => without_run(Ending::Usage { place }, console, clock),
@@ -82,6 +83,7 @@ fn serve<S: Shelf, C: Console, K: Clock>(
             };
             record(alloc, &request, shelf, console, clock)
         }
+        Ok(Job::Inspect { log }) => inspect(alloc, word(words, log), shelf, console, clock),
         Ok(_) => without_run(Ending::NotBuilt, console, clock),
     }
 }
@@ -99,13 +101,13 @@ pub fn revirt_still<T: Threads + Sync, S: Shelf, C: Console, K: Clock, G: Gate, 
 ) -> Finish<C, K>
     requires still { asks_free_run (texts words.now) ≡ false }
     requires writing { (S.seen shelf.old).writing ≡ false }
-    requires has { (w : Wish) → wish (texts words.now) ≡ Some w → S.has shelf.old w.image }
+    requires has { (name : List ℕ) → Fetches (texts words.now) name → S.has shelf.old name }
     ensures writing { (S.seen shelf.new).writing ≡ false }
     ensures serves { Serves (texts words.now)
         (around (S.seen shelf.old) (C.seen console) (K.seen clock) (R.seen report.old))
         (around (S.seen shelf.new) (C.seen result.console) (K.seen result.clock) (R.seen report.new))
         result.status }
-    ensures as_handed_in { wish (texts words.now) ≡ None → (result.console ≡ console) × (result.clock ≡ clock) }
+    ensures as_handed_in { AsksNoRun (texts words.now) → (result.console ≡ console) × (result.clock ≡ clock) }
 {
     let Ended {
         ending,
@@ -131,18 +133,25 @@ pub fn revirt<T: Threads + Wait + Sync, S: Shelf, C: Console, K: Clock, G: Gate,
     report: &mut R,
 ) -> Finish<C, K>
     requires writing { (S.seen shelf.old).writing ≡ false }
-    requires has { (w : Wish) → wish (texts words.now) ≡ Some w → S.has shelf.old w.image }
+    requires has { (name : List ℕ) → Fetches (texts words.now) name → S.has shelf.old name }
     ensures writing { (S.seen shelf.new).writing ≡ false }
     ensures serves { Serves (texts words.now)
         (around (S.seen shelf.old) (C.seen console) (K.seen clock) (R.seen report.old))
         (around (S.seen shelf.new) (C.seen result.console) (K.seen result.clock) (R.seen report.new))
         result.status }
-    ensures as_handed_in { wish (texts words.now) ≡ None → (result.console ≡ console) × (result.clock ≡ clock) }
+    ensures as_handed_in { AsksNoRun (texts words.now) → (result.console ≡ console) × (result.clock ≡ clock) }
 {
     revirt_still(rt, alloc, words, shelf, console, clock, gate, report)
 }
 
 /// A recording of an image that is told and accepted, in which nothing fails, is done, or memory ran out.
 pub fn recordings_are_done()
-    ensures { IsComplete }
+    ensures { AreDone HasImage }
+{}
+
+/// A listing of an orderly log that is told, in which nothing fails, is done, or memory ran out; a log that a recording
+/// kept is such a log.
+pub fn listings_are_done()
+    ensures done { AreDone HasLog }
+    ensures kept { KeptAreLogs }
 {}

@@ -1,6 +1,6 @@
 use Rattle.std.proofs.Common.{inl, ◌∙◌}
-use Rattle.revirt_tool.proofs.Texts.{as_usage, as_image, as_ending}
-use Rattle.revirt_tool.specs.declared.ending.Ending.TheVariants.{TooLong, ShelfFault}
+use Rattle.revirt_tool.proofs.Texts.{as_usage, as_too_long, as_image, as_malformed, as_ending}
+use Rattle.revirt_tool.specs.declared.ending.Ending.TheVariants.{ShelfFault}
 use Rattle.revirt_tool.proofs.ending.close.Goals as goal
 
 pub returns-in-Ok : goal.returns-in-Ok
@@ -9,12 +9,18 @@ returns-in-Ok g c =
     (c.as_bytes.ensures.value ∙ c.in-Ok.ensures.ok) c.print.ensures
 
 pub returns-in-TooLong : goal.returns-in-TooLong
-returns-in-TooLong g c = as_ending c.args.ending TooLong _ _ c.print-in-TooLong.result c.in-TooLong.is (inl c.print-in-TooLong.ensures)
+returns-in-TooLong g c =
+    as_too_long c.args.ending _ _ c.in-TooLong.file c.print-in-TooLong.result c.too_long.result.now c.in-TooLong.is c.too_long.ensures c.print-in-TooLong.ensures
 
 pub returns-in-Ok-format : goal.returns-in-Ok-format
 returns-in-Ok-format g c =
     as_image c.args.ending _ _ c.in-ImageRefused.rule c.print-in-Ok-format.result c.as_bytes-in-Ok-format.result.now c.in-ImageRefused.is
     (c.as_bytes-in-Ok-format.ensures.value ∙ c.in-Ok-format.ensures.ok) c.print-in-Ok-format.ensures
+
+pub returns-in-Ok-format-2 : goal.returns-in-Ok-format-2
+returns-in-Ok-format-2 g c =
+    as_malformed c.args.ending _ _ c.in-Malformed.offset c.in-Malformed.rule c.print-in-Ok-format-2.result c.as_bytes-in-Ok-format-2.result.now c.in-Malformed.is
+    (c.as_bytes-in-Ok-format-2.ensures.value ∙ c.in-Ok-format-2.ensures.ok) c.print-in-Ok-format-2.ensures
 
 pub returns-in-ShelfFault : goal.returns-in-ShelfFault
 returns-in-ShelfFault g c = as_ending c.args.ending ShelfFault _ _ c.print-in-ShelfFault.result c.in-ShelfFault.is (inl c.print-in-ShelfFault.ensures)

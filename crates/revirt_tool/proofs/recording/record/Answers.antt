@@ -1,4 +1,4 @@
-use Rattle.revirt_tool.specs.Promise.{wish_by}
+use Rattle.revirt_tool.specs.Tasks.{wish_by}
 use Rattle.revirt_tool.proofs.Recordings.{records, one_count}
 use Rattle.revirt_tool.proofs.recording.record.Goals as goal
 
