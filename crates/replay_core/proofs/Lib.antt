@@ -1,0 +1,17 @@
+pub mod CountLimits
+pub mod StateAfterItem
+pub mod MovesMade
+pub mod EntriesMade
+pub mod BytesSent
+pub mod DeviceEntries
+pub mod OtherHarts
+pub mod StageAfterItem
+pub mod EndsTell
+pub mod FirstStage
+pub mod GatheredMemory
+pub mod Verdicts
+pub mod ItemsLeft
+pub mod OutcomeAtEnd
+pub mod StagesGoOn
+pub mod OutcomesTold
+pub mod EndLists

@@ -1,0 +1,13 @@
+use Rattle.std.proofs.Common.{◌≡◌}
+use Rattle.replay_core.specs.Standing.{GoesOn, HasGone, left}
+use Rattle.replay_core.proofs.stage.Stage.go_far.Given as goal
+
+abbrev pub invariant-items : goal.invariant-items
+invariant-items l = record {
+  on : GoesOn l.initial.self l.self;
+  log : l.self.board.log ≡ l.initial.self.board.log;
+  gone : HasGone l.went l.initial.self l.self;
+}
+
+abbrev pub decreases-items : goal.decreases-items
+decreases-items l = left l.self

@@ -1,0 +1,272 @@
+//! A replay's board, apart from the runs of its harts.
+
+ghost use Rattle.std.specs.Prelude.{◌≡◌, ◌<◌, length, IsTrue, IfOk};
+ghost use Rattle.log_entry.specs.Range.{in_range};
+ghost use Rattle.order_rules.specs.Cursor.{first_left};
+ghost use Rattle.replay_model.specs.Items.{Move, item_at};
+ghost use Rattle.run_model.specs.Run.{ahead_of};
+ghost use Rattle.run_model.specs.declared.asked.Ahead.TheVariants.{AtDevice};
+ghost use Rattle.replay_core.specs.declared.went.Went.TheVariants as wents;
+ghost use Rattle.replay_core.specs.Items.{IsNext, IsStill};
+ghost use Rattle.replay_core.specs.declared.went.Next.TheVariants as nexts;
+ghost use Rattle.replay_core.specs.Standing.{BeginsBoard, IsTied, MakesItem, StaysWhere, Passes, item_of};
+
+use crate::cursor::Cursor;
+use crate::room::room_of;
+use crate::suits::suits;
+use crate::went::{Next, Went};
+use board_backing::Backing;
+use elf_image::Image;
+use hart_run::{Ahead, HartRun};
+use log_entry::{Entry, Log};
+use log_order::Orderly;
+use rv_words::{Access, Input, Mode};
+use shared_types::NoMemory;
+use std::alloc::Global;
+
+/// The log and how far it was taken, and the pages and devices. Its contracts speak of each state of the replay
+/// for which the board stands and with which the run agrees.
+#[derive(Drop)]
+pub struct ReplayBoard {
+    pub(crate) log: Orderly,
+    pub(crate) backing: Backing,
+    pub(crate) cursor: Cursor,
+}
+
+/// The number of harts of a log.
+pub(crate) fn harts_of(log: &Log) -> u8
+    requires { IsTrue (in_range log.now) }
+    ensures number { result ≡ length log.now.streams }
+    ensures some { 0 < result }
+{
+    log.streams.items().len() as u8
+}
+
+impl ReplayBoard {
+    /// The board at the start of the replay of an image, with room for each console byte.
+    pub(crate) fn start(alloc: Global, log: Orderly, image: &Image) -> Result<ReplayBoard, NoMemory>
+        requires { log.pages ≡ image.now.pages }
+        ensures { IfOk result (BeginsBoard log image.now) }
+    {
+        let _ = image.pages();
+        let room = room_of(log.log());
+        if room > u64::from(u32::MAX) {
+            return Err(NoMemory);
+        }
+        let harts = harts_of(log.log());
+        let cursor = Cursor::start(alloc, log.log())?;
+        let mut backing = Backing::start(alloc, image, harts)?;
+        backing.devices.reserve(room as u32)?;
+        Ok(ReplayBoard {
+            log,
+            backing,
+            cursor,
+        })
+    }
+
+    /// What the next item of a hart with this count is.
+    fn next(&self, count: u64, hart: u8) -> Next
+        requires { hart < length self.now.cursor.places }
+        ensures { IsNext self.now.cursor (item_at count (first_left self.now.log self.now.cursor hart)) result }
+    {
+        let Some(entry) = self.cursor.first_left(self.log.log(), usize::from(hart)) else {
+            return Next::Move;
+        };
+        let met = self.cursor.guard_is_met(entry);
+        match entry {
+            Entry::End { count: at } => {
+                if *at == count {
+                    Next::Ended
+                } else {
+                    Next::Move
+                }
+            }
+            Entry::Gain {
+                count: at,
+                page,
+                mode,
+                ..
+            } => {
+                if *at != count {
+                    Next::Move
+                } else if met {
+                    Next::Gain {
+                        page: *page,
+                        mode: *mode,
+                    }
+                } else {
+                    Next::Hold
+                }
+            }
+            Entry::Yield {
+                count: at,
+                page,
+                left,
+                ..
+            } => {
+                if *at != count {
+                    Next::Move
+                } else if met {
+                    Next::Yield {
+                        page: *page,
+                        left: *left,
+                    }
+                } else {
+                    Next::Hold
+                }
+            }
+            Entry::Poll {
+                count: at,
+                time,
+                bits,
+                ..
+            } => {
+                if *at != count {
+                    Next::Move
+                } else if met {
+                    Next::Poll {
+                        time: *time,
+                        bits: *bits,
+                    }
+                } else {
+                    Next::Hold
+                }
+            }
+            Entry::Touch {
+                count: at,
+                input,
+                ..
+            } => {
+                if *at != count {
+                    Next::Move
+                } else if met {
+                    Next::Touch { input: *input }
+                } else {
+                    Next::Hold
+                }
+            }
+        }
+    }
+
+    /// The hart's first entry left is taken.
+    fn pass(&mut self, hart: u8)
+        requires { hart < length self.old.cursor.places }
+        ensures cursor { Passes self.old self.new hart }
+        ensures log { self.new.log ≡ self.old.log }
+        ensures backing { self.new.backing ≡ self.old.backing }
+    {
+        let _ = self.cursor.take(self.log.log(), usize::from(hart));
+    }
+
+    /// A move without device access.
+    fn go_on(&self, run: &mut HartRun, hart: u8) -> Went
+        requires tied { IsTied self.now run.old hart }
+        requires next { item_of self.now run.old hart ≡ Move }
+        ensures goes { MakesItem self.now self.now run.old run.new hart result }
+        ensures still { IsStill result → run.new ≡ run.old }
+    {
+        match run.ahead() {
+            Ahead::Free => {
+                let count = run.count();
+                let _ = run.advance(count + 1);
+                Went::Moved
+            }
+            Ahead::Wants(_, _) => Went::Diverged(1),
+            Ahead::AtDevice(_) => Went::Diverged(2),
+        }
+    }
+
+    fn gain(&mut self, run: &mut HartRun, hart: u8, page: u32, mode: Mode) -> Went
+        requires tied { IsTied self.old run.old hart }
+        requires next { IsNext self.old.cursor (item_of self.old run.old hart) (nexts.Gain page mode) }
+        ensures goes { MakesItem self.old self.new run.old run.new hart result }
+        ensures made { result ≡ wents.Entry }
+        ensures log { self.new.log ≡ self.old.log }
+    {
+        self.backing.gain(run, page, mode);
+        self.pass(hart);
+        Went::Entry
+    }
+
+    fn yield_page(&mut self, run: &mut HartRun, hart: u8, page: u32, left: Option<Mode>) -> Went
+        requires tied { IsTied self.old run.old hart }
+        requires next { IsNext self.old.cursor (item_of self.old run.old hart) (nexts.Yield page left) }
+        ensures goes { MakesItem self.old self.new run.old run.new hart result }
+        ensures made { result ≡ wents.Entry }
+        ensures log { self.new.log ≡ self.old.log }
+    {
+        let _ = self.backing.yield_page(run, page, left);
+        self.pass(hart);
+        Went::Entry
+    }
+
+    fn poll(&mut self, run: &mut HartRun, hart: u8, time: u64, bits: u8) -> Went
+        requires tied { IsTied self.old run.old hart }
+        requires next { IsNext self.old.cursor (item_of self.old run.old hart) (nexts.Poll time bits) }
+        ensures goes { MakesItem self.old self.new run.old run.new hart result }
+        ensures still { StaysWhere (IsStill result) self.old self.new run.old run.new }
+        ensures log { self.new.log ≡ self.old.log }
+    {
+        if self.backing.devices.lines_at(hart, time) != bits {
+            return Went::Diverged(5);
+        }
+        if self.backing.devices.stop().is_some() {
+            return Went::Diverged(6);
+        }
+        let _ = self.backing.poll(run, hart, time);
+        self.pass(hart);
+        Went::Entry
+    }
+
+    fn touch(&mut self, run: &mut HartRun, hart: u8, input: Input) -> Went
+        requires tied { IsTied self.old run.old hart }
+        requires next { IsNext self.old.cursor (item_of self.old run.old hart) (nexts.Touch input) }
+        ensures goes { MakesItem self.old self.new run.old run.new hart result }
+        ensures still { StaysWhere (IsStill result) self.old self.new run.old run.new }
+        ensures log { self.new.log ≡ self.old.log }
+    {
+        match run.ahead() {
+            Ahead::Wants(_, _) => Went::Diverged(1),
+            Ahead::Free => Went::Diverged(3),
+            Ahead::AtDevice(access) => self.access(run, hart, access, input),
+        }
+    }
+
+    fn access(&mut self, run: &mut HartRun, hart: u8, access: Access, input: Input) -> Went
+        requires tied { IsTied self.old run.old hart }
+        requires next { IsNext self.old.cursor (item_of self.old run.old hart) (nexts.Touch input) }
+        requires ahead { ahead_of run.old ≡ AtDevice access }
+        ensures goes { MakesItem self.old self.new run.old run.new hart result }
+        ensures still { StaysWhere (IsStill result) self.old self.new run.old run.new }
+        ensures log { self.new.log ≡ self.old.log }
+    {
+        let harts = harts_of(self.log.log());
+        if !suits(&self.backing, harts, access, input) {
+            return Went::Diverged(4);
+        }
+        if self.backing.devices.stop().is_some() {
+            return Went::Diverged(6);
+        }
+        let _ = self.backing.replay_touch(run, hart, access, input);
+        self.pass(hart);
+        Went::Entry
+    }
+
+    /// One item of the hart whose run this is.
+    pub(crate) fn go(&mut self, run: &mut HartRun, hart: u8) -> Went
+        requires tied { IsTied self.old run.old hart }
+        ensures goes { MakesItem self.old self.new run.old run.new hart result }
+        ensures still { StaysWhere (IsStill result) self.old self.new run.old run.new }
+        ensures log { self.new.log ≡ self.old.log }
+    {
+        match self.next(run.count(), hart) {
+            Next::Ended => Went::Ended,
+            Next::Hold => Went::Hold,
+            Next::Move => self.go_on(run, hart),
+            Next::Gain { page, mode } => self.gain(run, hart, page, mode),
+            Next::Yield { page, left } => self.yield_page(run, hart, page, left),
+            Next::Poll { time, bits } => self.poll(run, hart, time, bits),
+            Next::Touch { input } => self.touch(run, hart, input),
+        }
+    }
+}
