@@ -31,35 +31,49 @@ fn plain_row<'a>(log: &'a [u8], status: u8, text: &'static str) -> Row<'a> {
     }
 }
 
-/// Serves a line over a shelf.
-fn serve<T: Threads + Wait + Sync>(
+/// What a listing came to.
+#[derive(Drop)]
+struct Listed {
+    status: u8,
+    shelf: MemShelf,
+    report: MemSink,
+}
+
+/// Lists the log `l`, where there is one.
+fn list<T: Threads + Wait + Sync>(
     rt: &T,
     alloc: Global,
-    line: &str,
-    shelf: &mut MemShelf,
-    report: &mut MemSink,
-) -> Result<u8, Fail> {
-    let words = words_of(alloc, line)?;
+    log: Option<&[u8]>,
+    shelf_fails: &[u64],
+    sink_fails: &[u64],
+) -> Result<Listed, Fail> {
+    let words = words_of(alloc, "inspect l")?;
+    let mut shelf = MemShelf::start(alloc, 1_000, shelf_fails)?;
+    if let Some(log) = log {
+        shelf.hold("l", log);
+    }
+    let mut report = MemSink::start(alloc, 10_000, sink_fails)?;
     let Finish { status, .. } = revirt(
         rt,
         alloc,
         &words,
-        shelf,
+        &mut shelf,
         SureConsole::start(),
         MemClock::start(5, 0),
         &OpenGate,
-        report,
+        &mut report,
     );
-    Ok(status)
+    Ok(Listed {
+        status,
+        shelf,
+        report,
+    })
 }
 
 fn comes_true<T: Threads + Wait + Sync>(rt: &T, alloc: Global, row: Row) -> Result<bool, Fail> {
-    let mut shelf = MemShelf::start(alloc, 1_000, row.shelf_fails)?;
-    shelf.hold("l", row.log);
-    let mut report = MemSink::start(alloc, 10_000, row.sink_fails)?;
-    let status = serve(rt, alloc, "inspect l", &mut shelf, &mut report)?;
-    let kept = shelf.held("l") == Some(row.log);
-    Ok(kept && status == row.status && report.written() == row.text.as_bytes())
+    let listed = list(rt, alloc, Some(row.log), row.shelf_fails, row.sink_fails)?;
+    let kept = listed.shelf.held("l") == Some(row.log);
+    Ok(kept && listed.status == row.status && listed.report.written() == row.text.as_bytes())
 }
 
 /// One hart that stores 7 to STOP in its third move.
@@ -217,29 +231,55 @@ fn what_fails_around_a_listing_is_told(rt: HostRuntime) -> Result<(), Fail> {
 
 #[test]
 fn a_log_that_is_not_there_is_a_shelf_fault(rt: HostRuntime) -> Result<(), Fail> {
-    let alloc = rt.alloc();
-    let mut shelf = MemShelf::start(alloc, 100, &[])?;
-    let mut report = MemSink::start(alloc, 100, &[])?;
-    assert_eq!(rt; serve(&rt, alloc, "inspect l", &mut shelf, &mut report)?, 4);
-    assert_eq!(rt; report.written(), b"shelf fault\n".as_slice());
+    let listed = list(&rt, rt.alloc(), None, &[], &[])?;
+    assert_eq!(rt; listed.status, 4);
+    assert_eq!(rt; listed.report.written(), b"shelf fault\n".as_slice());
     Ok(())
+}
+
+/// Records the guest `g` and then lists its log: the statuses of both, and what the listing printed.
+fn record_and_list<T: Threads + Wait + Sync>(
+    rt: &T,
+    alloc: Global,
+    file: &[u8],
+) -> Result<(u8, u8, MemSink), Fail> {
+    let recording = words_of(alloc, "record g l --pages 1 --limit 100")?;
+    let listing = words_of(alloc, "inspect l")?;
+    let mut shelf = MemShelf::start(alloc, 10_000, &[])?;
+    shelf.hold("g", file);
+    let mut report = MemSink::start(alloc, 10_000, &[])?;
+    let mut listed = MemSink::start(alloc, 10_000, &[])?;
+    let first = revirt(
+        rt,
+        alloc,
+        &recording,
+        &mut shelf,
+        SureConsole::start(),
+        MemClock::start(5, 0),
+        &OpenGate,
+        &mut report,
+    );
+    let second = revirt(
+        rt,
+        alloc,
+        &listing,
+        &mut shelf,
+        SureConsole::start(),
+        MemClock::start(5, 0),
+        &OpenGate,
+        &mut listed,
+    );
+    Ok((first.status, second.status, listed))
 }
 
 #[test]
 fn what_was_recorded_is_listed(rt: HostRuntime) -> Result<(), Fail> {
     let alloc = rt.alloc();
     let file = bytes_of(alloc, smallest())?;
-    let mut shelf = MemShelf::start(alloc, 10_000, &[])?;
-    shelf.hold("g", file.as_slice());
-    let mut report = MemSink::start(alloc, 10_000, &[])?;
-    let line = "record g l --pages 1 --limit 100";
-    assert_eq!(rt; serve(&rt, alloc, line, &mut shelf, &mut report)?, 0);
-    let mut listing = MemSink::start(alloc, 10_000, &[])?;
-    assert_eq!(rt;
-        serve(&rt, alloc, "inspect l", &mut shelf, &mut listing)?,
-        0
-    );
-    assert_eq!(rt; listing.written(), smallest_listing().as_bytes());
+    let (recorded, status, listed) = record_and_list(&rt, alloc, file.as_slice())?;
+    assert_eq!(rt; recorded, 0);
+    assert_eq!(rt; status, 0);
+    assert_eq!(rt; listed.written(), smallest_listing().as_bytes());
     Ok(())
 }
 
