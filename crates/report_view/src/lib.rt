@@ -4,5 +4,7 @@
 mod report;
 #[cfg(test)]
 mod tests;
+mod trace;
 
 pub use report::report_text;
+pub use trace::{can_be_told, trace_text};

@@ -25,7 +25,7 @@ fn put_hex(alloc: Global, out: &mut String, bytes: &[u8]) -> Result<(), AllocErr
 }
 
 #[tactic(auto, unfolding(crate::specs::Report::word))]
-fn put_word(alloc: Global, out: &mut String, n: u32) -> Result<(), AllocError>
+pub(crate) fn put_word(alloc: Global, out: &mut String, n: u32) -> Result<(), AllocError>
     ensures { OnOk result (string_bytes out.new ≡ string_bytes out.old ++ word n) }
 {
     put_hex(alloc, out, &n.to_be_bytes())

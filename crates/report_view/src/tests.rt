@@ -1,9 +1,9 @@
-//! Reports of ends made by hand, whole.
+//! Reports of ends and traces of steps made by hand, whole.
 
-ghost use Rattle.std.specs.Prelude.{◌≡◌, length, IsSome, IfOk};
+ghost use Rattle.std.specs.Prelude.{◌≡◌, ◌<◌, ◌^◌, length, vec_len, IsSome, IfOk};
 
-use crate::report_text;
-use flat_machine::{Bytes, Counts, Final, Harts, Memory};
+use crate::{can_be_told, report_text, trace_text};
+use flat_machine::{Bytes, Counts, Final, Harts, Memory, Step, Steps};
 use rv_hart::Hart;
 use rv_words::Cause;
 use std::alloc::Global;
@@ -134,4 +134,91 @@ fn each_cause_has_its_line(rt: HostRuntime) {
         let text = report_text(alloc, &empty_end(alloc, cause)).expect(&rt, "memory");
         assert!(rt; text.starts_with(lines.as_bytes()), "{cause:?}");
     }
+}
+
+fn step(pc: u32, word: Option<u32>, cause: Option<u32>, wrote: Option<(u8, u32)>) -> Step {
+    Step {
+        pc,
+        word,
+        cause,
+        wrote,
+        after: Hart::start(0, 1, 1, 0x8000_0000),
+    }
+}
+
+fn text_of(alloc: Global, from: u32, steps: Vec<Step>) -> Option<Vec<u8>>
+    requires { vec_len steps < 2 ^ 32 }
+{
+    let steps = Steps::of(steps);
+    if !can_be_told(&steps) {
+        return None;
+    }
+    trace_text(alloc, u64::from(from), &steps).ok()
+}
+
+#[test]
+fn the_trace_of_a_hart_that_stops(rt: HostRuntime) -> Result<(), Fail> {
+    let alloc = rt.alloc();
+    let steps = vec![in alloc;
+        step(0x8000_0000, Some(STOPPING[0]), None, Some((1, 0x1000_0000))),
+        step(0x8000_0004, Some(STOPPING[1]), None, Some((2, 7))),
+        step(0x8000_0008, Some(STOPPING[2]), None, None),
+    ]?;
+    let text = "0 80000000 100000b7 lui x1, 0x10000 x1=10000000
+1 80000004 00700113 addi x2, x0, 7 x2=00000007
+2 80000008 0020a423 sw x2, 8(x1)
+";
+    let told = text_of(alloc, 0, steps).expect(&rt, "memory");
+    assert_eq!(rt; told.as_slice(), text.as_bytes());
+    Ok(())
+}
+
+// A word that is no instruction, a fetch outside memory, the timer's and the software's interrupt, and an ECALL.
+#[test]
+fn the_trace_of_traps_and_interrupts(rt: HostRuntime) -> Result<(), Fail> {
+    let alloc = rt.alloc();
+    let steps = vec![in alloc;
+        step(0x8000_0000, Some(0), Some(2), None),
+        step(0, None, Some(1), None),
+        step(0x8000_0010, None, Some(0x8000_0007), None),
+        step(0x8000_0010, None, Some(0x8000_0003), None),
+        step(0x8000_0010, Some(0x0000_0073), Some(11), None),
+    ]?;
+    let text = "4095 80000000 00000000 trap 2
+4096 00000000 -------- trap 1
+4097 80000010 -------- interrupt 7
+4098 80000010 -------- interrupt 3
+4099 80000010 00000073 trap 11
+";
+    let told = text_of(alloc, 4095, steps).expect(&rt, "memory");
+    assert_eq!(rt; told.as_slice(), text.as_bytes());
+    Ok(())
+}
+
+// An AMO, a failed SC, a write to a CSR, and a load of the console that found no byte.
+#[test]
+fn the_trace_of_registers_set(rt: HostRuntime) -> Result<(), Fail> {
+    let alloc = rt.alloc();
+    let steps = vec![in alloc;
+        step(0x8000_0014, Some(0x0054_a52f), None, Some((10, 0x41))),
+        step(0x8000_0018, Some(0x1820_a1af), None, Some((3, 1))),
+        step(0x8000_001c, Some(0x3051_10f3), None, Some((1, 0))),
+        step(0x8000_0020, Some(0x0000_a103), None, Some((2, 0xffff_ffff))),
+    ]?;
+    let text = "7 80000014 0054a52f amoadd.w x10, x5, (x9) x10=00000041
+8 80000018 1820a1af sc.w x3, x2, (x1) x3=00000001
+9 8000001c 305110f3 csrrw x1, 0x305, x2 x1=00000000
+10 80000020 0000a103 lw x2, 0(x1) x2=ffffffff
+";
+    let told = text_of(alloc, 7, steps).expect(&rt, "memory");
+    assert_eq!(rt; told.as_slice(), text.as_bytes());
+    Ok(())
+}
+
+#[test]
+fn a_move_without_instruction_or_trap_is_not_told(rt: HostRuntime) -> Result<(), Fail> {
+    let alloc = rt.alloc();
+    let steps = vec![in alloc; step(0x8000_0000, Some(0), None, None)]?;
+    assert!(rt; text_of(alloc, 0, steps).is_none());
+    Ok(())
 }
