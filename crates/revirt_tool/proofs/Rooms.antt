@@ -405,7 +405,8 @@ breaks_bare log rule hart entry (inl first) = inl (broken_are log 1 rules (all_r
 breaks_bare log rule hart entry (inr ninth) =
     inr (ninth.0, broken_are log 1 rules (all_rules log) ∙ ninth.1, keeps_leaving log (Some (hart, entry)) ninth.2)
 
-pub not_judged : (one other : Log) (rule hart entry : ℕ) → log_without_room one ≡ log_without_room other → IsOrderly one → IsLeastBreak other rule hart entry → ⊥
+pub not_judged : (one other : Log) (rule hart entry : ℕ) → log_without_room one ≡ log_without_room other → IsOrderly one
+    → IsLeastBreak other rule hart entry → ⊥
 not_judged one other rule hart entry same orderly breaks =
     reports_are_one.none one rule hart entry orderly
     (bare_break one rule hart entry (subst (λ l. IsLeastBreak l rule hart entry) (sym same) (breaks_bare other rule hart entry breaks)))

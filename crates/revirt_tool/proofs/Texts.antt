@@ -18,8 +18,8 @@ pub as_too_long : (e : Ending) (s t : SeenSink) (file : File) (status : ℕ) (te
     → PrintsOrFails text 9 9 s t status → Closes e s t status
 as_too_long e s t file status text is line prints = as_ending e (TooLong file) s t status is (inl (subst (λ x. PrintsOrFails x 9 9 s t status) line prints))
 
-pub as_image : (e : Ending) (s t : SeenSink) (rule status : ℕ) (text : List ℕ) → e ≡ ImageRefused rule → text ≡ image_line rule → PrintsOrFails text 2 2 s t status
-    → Closes e s t status
+pub as_image : (e : Ending) (s t : SeenSink) (rule status : ℕ) (text : List ℕ) → e ≡ ImageRefused rule → text ≡ image_line rule
+    → PrintsOrFails text 2 2 s t status → Closes e s t status
 as_image e s t rule status text is line prints = as_ending e (ImageRefused rule) s t status is (inl (subst (λ x. PrintsOrFails x 2 2 s t status) line prints))
 
 pub as_malformed : (e : Ending) (s t : SeenSink) (offset rule status : ℕ) (text : List ℕ) → e ≡ Malformed offset rule → text ≡ malformed_line offset rule

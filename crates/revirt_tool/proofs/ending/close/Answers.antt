@@ -10,7 +10,8 @@ returns-in-Ok g c =
 
 pub returns-in-TooLong : goal.returns-in-TooLong
 returns-in-TooLong g c =
-    as_too_long c.args.ending _ _ c.in-TooLong.file c.print-in-TooLong.result c.too_long.result.now c.in-TooLong.is c.too_long.ensures c.print-in-TooLong.ensures
+    as_too_long c.args.ending _ _ c.in-TooLong.file c.print-in-TooLong.result c.too_long.result.now c.in-TooLong.is c.too_long.ensures
+    c.print-in-TooLong.ensures
 
 pub returns-in-Ok-format : goal.returns-in-Ok-format
 returns-in-Ok-format g c =
@@ -19,7 +20,8 @@ returns-in-Ok-format g c =
 
 pub returns-in-Ok-format-2 : goal.returns-in-Ok-format-2
 returns-in-Ok-format-2 g c =
-    as_malformed c.args.ending _ _ c.in-Malformed.offset c.in-Malformed.rule c.print-in-Ok-format-2.result c.as_bytes-in-Ok-format-2.result.now c.in-Malformed.is
+    as_malformed c.args.ending _ _ c.in-Malformed.offset c.in-Malformed.rule c.print-in-Ok-format-2.result
+    c.as_bytes-in-Ok-format-2.result.now c.in-Malformed.is
     (c.as_bytes-in-Ok-format-2.ensures.value ∙ c.in-Ok-format-2.ensures.ok) c.print-in-Ok-format-2.ensures
 
 pub returns-in-ShelfFault : goal.returns-in-ShelfFault

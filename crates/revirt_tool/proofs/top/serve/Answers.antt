@@ -20,7 +20,8 @@ record-requires-clause-names g c = λ _ _.
     (texts c.args.words.now) x.field-0 x.image x.log x.field-0-2 x.pages x.limit x.log_limit x.dump x.field-0-7 log.result.now x.ensures.names
     x.field-0-is log.ensures c.word_where.ensures
 
-pub returns-in-Ok-Record-default-default-eq1-default-default-default-default-default-clause-ends : goal.returns-in-Ok-Record-default-default-eq1-default-default-default-default-default-clause-ends
+pub returns-in-Ok-Record-default-default-eq1-default-default-default-default-default-clause-ends :
+    goal.returns-in-Ok-Record-default-default-eq1-default-default-default-default-default-clause-ends
 returns-in-Ok-Record-default-default-eq1-default-default-default-default-default-clause-ends g c =
     let x = c.in-Ok-Record-default-default-eq1-default-default-default-default-default in
     let log = c.word-in-Ok-Record-default-default-eq1-default-default-default-default-default in
@@ -29,7 +30,8 @@ returns-in-Ok-Record-default-default-eq1-default-default-default-default-default
     x.ensures.job x.field-0-is x.field-0-2-test c.word.ensures log.ensures c.word_where.ensures)
     c.record.ensures.records
 
-pub returns-in-Ok-Record-default-default-eq1-default-default-default-default-default-clause-as_handed_in : goal.returns-in-Ok-Record-default-default-eq1-default-default-default-default-default-clause-as_handed_in
+pub returns-in-Ok-Record-default-default-eq1-default-default-default-default-default-clause-as_handed_in :
+    goal.returns-in-Ok-Record-default-default-eq1-default-default-default-default-default-clause-as_handed_in
 returns-in-Ok-Record-default-default-eq1-default-default-default-default-default-clause-as_handed_in g c = λ asks_none.
     let x = c.in-Ok-Record-default-default-eq1-default-default-default-default-default in
     let log = c.word-in-Ok-Record-default-default-eq1-default-default-default-default-default in
