@@ -10,3 +10,7 @@ pub mod GoingOn
 pub mod ReachedLists
 pub mod LegsAtOnce
 pub mod Causes
+pub mod FewWaits
+pub mod EndWalks
+pub mod TurnEnds
+pub mod EndsKept

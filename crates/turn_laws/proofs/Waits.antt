@@ -103,7 +103,7 @@ number_is : (page : ℕ) (e : Entry) (o : Option (ℕ × ℕ)) → page_number e
 number_is page e o is = ap (option_and_then (λ (x : ℕ × ℕ). if x.0 == page then Some x.1 else None)) is
 
 -- waits hang on the entries with lesser numbers
-waits_alike : (one other : Log) (page h k : ℕ) → ((j : ℕ) → j < k → numbered one page j ≡ numbered other page j)
+pub waits_alike : (one other : Log) (page h k : ℕ) → ((j : ℕ) → j < k → numbered one page j ≡ numbered other page j)
     → waits_due one page h k ≡ waits_due other page h k
 waits_alike one other page h zero same = refl
 waits_alike one other page h (suc k) same = ap₂ (waits_after h) (waits_alike one other page h k (λ j l. same j (omega (arith, l)))) (same k (omega arith))

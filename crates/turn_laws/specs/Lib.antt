@@ -4,3 +4,4 @@ pub mod Polls
 pub mod Waits
 pub mod GivenLegs
 pub mod Laws
+pub mod EndLaws

@@ -2,6 +2,8 @@
 //! bodies: they promise the laws.
 #![tactic(auto)]
 
+ghost use Rattle.turn_laws.specs.EndLaws.{BoardsAreInRange, FaultIsAtConsole, FullIsFull, ListsAreInRange};
+ghost use Rattle.turn_laws.specs.EndLaws.{ListsTell, RoundsAreInRange, RoundsTell};
 ghost use Rattle.turn_laws.specs.Laws.{ClaimsAreOne, ClashesAreOne, ClosesExtend, ClosesLead, HoldsAreOne};
 ghost use Rattle.turn_laws.specs.Laws.{LastLegsAtOnce, LastTurnsExtend, LastTurnsGoOn, LastTurnsLead, LegsAre};
 ghost use Rattle.turn_laws.specs.Laws.{LegsAreShort, LegsAtOnce, LegsEndSooner, LegsStay, ListsAreCut, ListsExtend};
@@ -103,4 +105,19 @@ pub fn holders_are_one()
 pub fn turns_are_short()
     ensures legs { LegsAreShort }
     ensures turns { TurnsAreShort }
+{}
+
+/// A full log has no room for the greatest entry, and a fault leaves a hart at the console for good.
+pub fn causes_tell()
+    ensures full { FullIsFull }
+    ensures fault { FaultIsAtConsole }
+    ensures list { ListsTell }
+    ensures rounds { RoundsTell }
+{}
+
+/// Each log that is recorded can be written.
+pub fn logs_are_in_range()
+    ensures board { BoardsAreInRange }
+    ensures list { ListsAreInRange }
+    ensures rounds { RoundsAreInRange }
 {}
