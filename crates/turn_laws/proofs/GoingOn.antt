@@ -1,14 +1,24 @@
 -- Lists of turns, sweeps and last turns, one behind another; and rounds that end end alike.
-use Rattle.std.proofs.Common.{◌≡◌, ℕ, zero, suc, ◌+◌, ◌==◌, not, min, Bool, true, List, [], ◌∷◌, ◌++◌, Option, Some, None, refl, sym, ap, ◌∙◌, subst}
+use Rattle.std.proofs.Common.{◌≡◌, ℕ, zero, suc, ◌+◌, ◌==◌, not, min, Bool, true, List, [], ◌∷◌, ◌++◌, Option, Some, None, refl, sym, ap, ap₂, ◌∙◌, subst, append_assoc}
 use Rattle.std.proofs.Common.{if◌then◌else◌, true≢false}
 use Rattle.std.specs.Option.{option_and_then}
+use Rattle.std.proofs.Math.Nat.{add_assoc}
 use Rattle.std.proofs.lemmas.Option.{same_Some}
 use Rattle.shared_types.proofs.Lists.{bound_to, not_chosen, unless}
 use Rattle.turn_model.specs.Recordable.{Recordable}
-use Rattle.turn_model.specs.Board.{Board, Terms, harts, is_over}
+use Rattle.turn_model.specs.Board.{Board, Supply, Terms, harts, is_over}
 use Rattle.turn_model.specs.Turn.{turn}
+use Rattle.turn_laws.specs.Supplies.{followed_by}
 use Rattle.turn_model.specs.Lists.{Recorded, whole_leg, listed, comes_to}
 use Rattle.turn_model.specs.Rounds.{with_favoured, sweep, round, rounds, last_turns, IsRecordedInRounds}
+
+-- what is to be given, in three parts
+pub joined : (a b c : Supply) → followed_by (followed_by a b) c ≡ followed_by a (followed_by b c)
+joined a b c =
+    ap₂ (λ xs ts. record { answers = xs; takes = a.takes + b.takes + c.takes; times = ts }) (append_assoc a.answers b.answers c.answers)
+    (append_assoc a.times b.times c.times)
+    ∙ ap (λ k. record { answers = a.answers ++ (b.answers ++ c.answers); takes = k; times = a.times ++ (b.times ++ c.times) })
+    (add_assoc a.takes b.takes c.takes)
 
 -- one behind another, behind a third
 behind : {A B C : Type 0} (k : A → Option C) (f : B → Option C) (g : A → Option B) → ((a : A) → k a ≡ option_and_then f (g a)) → (o : Option A)

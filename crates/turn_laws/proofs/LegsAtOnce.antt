@@ -1,6 +1,6 @@
 -- The legs of a round may be taken all at once.
 use Rattle.std.proofs.Common.{◌≡◌, ◌≢◌, ◌⊎◌, inl, inr, ℕ, zero, suc, ◌+◌, ◌-◌, ◌%◌, ◌<◌, ◌≤◌, ◌==◌, Bool, true, false, List, [], ◌∷◌, ◌++◌, length, map}
-use Rattle.std.proofs.Common.{Option, Some, None, refl, sym, ap, ◌∙◌, subst, arith, if◌then◌else◌}
+use Rattle.std.proofs.Common.{Option, Some, None, unwrap_or, slice_get, replicate, refl, sym, ap, ◌∙◌, subst, arith, if◌then◌else◌}
 use Rattle.std.specs.Option.{option_and_then}
 use Rattle.std.proofs.lemmas.Option.{same_Some}
 use Rattle.std.proofs.lemmas.Bool.Decides.{leb_tells}
@@ -8,12 +8,12 @@ use Rattle.std.proofs.Math.Nat.{mod-lt, mod-add-mod, add-mod_left, mod-eq_of_lt}
 use Rattle.orders_law.specs.Orders.{below}
 use Rattle.elf_image.specs.Image.{Image, IsWhole}
 use Rattle.flat_machine.specs.State.{FlatState}
-use Rattle.turn_model.specs.Laws.{machine_in}
-use Rattle.turn_model.specs.Board.{Board, Supply, Terms, harts}
-use Rattle.turn_model.specs.Lists.{whole_leg}
-use Rattle.turn_model.specs.Rounds.{round_from, with_favoured, sweep, last_turns}
+use Rattle.turn_model.specs.Laws.{machine_in, first_board}
+use Rattle.turn_model.specs.Board.{Board, Order, Supply, Terms, harts}
+use Rattle.turn_model.specs.Lists.{leg_by, whole_leg}
+use Rattle.turn_model.specs.Rounds.{round_from, with_favoured, sweep, round, last_turns}
 use Rattle.turn_model.specs.Turn.{turn}
-use Rattle.turn_laws.specs.Reached.{Turned, Favours}
+use Rattle.turn_laws.specs.Reached.{Begun, Turned, Favours}
 use Rattle.turn_laws.specs.GivenLegs.{EachBelow, sweep_with, last_with}
 use Rattle.turn_laws.proofs.ReachedLists.{each_below, round_below}
 use Rattle.turn_laws.proofs.Legs.{ReachedFrom, reached_are_crew, legs_stay}
@@ -35,13 +35,31 @@ apart_by n f i j y lf li lj (inl (a, b)) (inr (c, d)) = omega (arith, lf, li, lj
 apart_by n f i j y lf li lj (inr (a, b)) (inl (c, d)) = omega (arith, lf, li, lj, a, b, c, d)
 apart_by n f i j y lf li lj (inr (a, b)) (inr (c, d)) = omega (arith, lf, li, lj, a, b, c, d)
 
-apart : (n r i j : ℕ) → i < n → j < n → (r + i) % n ≡ (r + j) % n → i ≡ j
+pub apart : (n r i j : ℕ) → i < n → j < n → (r + i) % n ≡ (r + j) % n → i ≡ j
 apart n r i j li lj same =
     let pos : zero < n = omega (arith, li) in
     let f = mod-lt r pos in
     apart_by n (r % n) i j ((r % n + i) % n) f li lj (wrap n (r % n + i) pos (omega (arith, f, li)))
     (subst (λ y. ((r % n + j < n) × (y ≡ r % n + j)) ⊎ ((n ≤ r % n + j) × (y + n ≡ r % n + j))) (mod-add-mod r n j ∙ sym same ∙ sym (mod-add-mod r n i))
     (wrap n (r % n + j) pos (omega (arith, f, lj))))
+
+-- and each is there
+pub all_come : (n r h : ℕ) → h < n → (i : ℕ) × (i < n) × ((r + i) % n ≡ h)
+all_come n r h l =
+    let pos : zero < n = omega (arith, l) in
+    let f = mod-lt r pos in
+    let x = h + n - r % n in
+    let i = x % n in
+    let far : x < n + n = omega (arith, l) in
+    let inside = mod-lt x pos in
+    (i, inside, sym (mod-add-mod r n i) ∙ by (r % n) i f inside (wrap n x pos far) (wrap n (r % n + i) pos (omega (arith, f, inside))))
+  where
+    by : (f i : ℕ) → f < n → i < n → ((h + n - f < n) × (i ≡ h + n - f)) ⊎ ((n ≤ h + n - f) × (i + n ≡ h + n - f))
+        → ((f + i < n) × ((f + i) % n ≡ f + i)) ⊎ ((n ≤ f + i) × ((f + i) % n + n ≡ f + i)) → (f + i) % n ≡ h
+    by f i lf li (inl (a, b)) (inl (c, d)) = omega (arith, l, lf, li, a, b, c, d)
+    by f i lf li (inl (a, b)) (inr (c, d)) = omega (arith, l, lf, li, a, b, c, d)
+    by f i lf li (inr (a, b)) (inl (c, d)) = omega (arith, l, lf, li, a, b, c, d)
+    by f i lf li (inr (a, b)) (inr (c, d)) = omega (arith, l, lf, li, a, b, c, d)
 
 -- a hart that isn't in a list
 abbrev NotIn : ℕ → List ℕ → Type 0
@@ -176,3 +194,32 @@ module _ (terms : Terms) (image : Image) (many : ℕ) (supply : Supply) (whole :
       let n = length b.streams in
       last_same (λ h. whole_leg (machine_in terms) terms h b) (harts b) b from (each_below many n (let z = streams_size b from in omega (arith, z)))
       (below_apart n) (agree_first b (harts b))
+
+-- before any turn nobody is told to go
+none_told : (told : Option Order) → told ≡ None → (n h : ℕ) → unwrap_or (slice_get (replicate n told) h) None ≡ None
+none_told told none zero h = refl
+none_told told none (suc n) zero = none
+none_told told none (suc n) (suc h) = none_told told none n h
+
+still_legs : (terms : Terms) (r : ℕ) (legs : ℕ → ℕ) → ((h : ℕ) → legs h ≡ 0) → (hs : List ℕ) (b : Board FlatState)
+    → sweep_with (machine_in terms) terms r legs hs b ≡ sweep (machine_in terms) terms r false hs b
+still_legs terms r legs none [] b = refl
+still_legs terms r legs none (h ∷ hs) b =
+    ap (λ n. option_and_then (sweep_with (machine_in terms) terms r legs hs) (turn (machine_in terms) terms h n (with_favoured r b))) (none h)
+    ∙ same (turn (machine_in terms) terms h 0 (with_favoured r b)) (λ d. still_legs terms r legs none hs d)
+  where
+    same : (o : Option (Board FlatState))
+        → ((d : Board FlatState) → sweep_with (machine_in terms) terms r legs hs d ≡ sweep (machine_in terms) terms r false hs d)
+        → option_and_then (sweep_with (machine_in terms) terms r legs hs) o ≡ option_and_then (sweep (machine_in terms) terms r false hs) o
+    same None f = refl
+    same (Some d) f = f d
+
+pub begin_still : (terms : Terms) (image : Image) (many : ℕ) (supply : Supply) → IsWhole image → terms.pages ≡ image.pages
+    → round (machine_in terms) terms 0 true (first_board terms image many supply) ≡ round (machine_in terms) terms 0 false (first_board terms image many supply)
+begin_still terms image many supply whole pages =
+    let first = first_board terms image many supply in
+    let hs = round_from 0 first in
+    ap (λ o. option_and_then (sweep (machine_in terms) terms 0 false hs) (option_and_then (sweep (machine_in terms) terms 0 false hs) o))
+    (legs_at_once terms image many supply whole pages 0 first Begun
+    ∙ still_legs terms 0 (λ h. whole_leg (machine_in terms) terms h first)
+    (λ h. ap (leg_by (machine_in terms) terms h first) (none_told None refl many h)) hs first)

@@ -104,6 +104,23 @@ LastTurnsGoOn = (terms : Terms) (hs more : List ℕ) (b : Board FlatState)
     → last_turns (machine_in terms) terms (hs ++ more) b
     ≡ option_and_then (last_turns (machine_in terms) terms more) (last_turns (machine_in terms) terms hs b)
 
+-- What is to be given in three parts may be joined either way.
+abbrev pub SuppliesAreJoined : Type 0
+SuppliesAreJoined = (a b c : Supply) → followed_by (followed_by a b) c ≡ followed_by a (followed_by b c)
+
+-- A round comes to each hart, once.
+abbrev pub HartsComeOnce : Type 0
+HartsComeOnce = (harts r i j : ℕ) → i < harts → j < harts → (r + i) % harts ≡ (r + j) % harts → i ≡ j
+
+abbrev pub HartsAllCome : Type 0
+HartsAllCome = (harts r h : ℕ) → h < harts → (i : ℕ) × (i < harts) × ((r + i) % harts ≡ h)
+
+-- In the first round no hart has a leg before its turn.
+abbrev pub RoundsBeginStill : Type 0
+RoundsBeginStill = (terms : Terms) (image : Image) (harts : ℕ) (supply : Supply) → IsWhole image → terms.pages ≡ image.pages
+    → round (machine_in terms) terms 0 true (first_board terms image harts supply)
+    ≡ round (machine_in terms) terms 0 false (first_board terms image harts supply)
+
 -- a board that turns of so many harts lead to, from the start of an image
 abbrev pub IsReachable : Terms → Image → ℕ → Supply → Board FlatState → Type 0
 IsReachable terms image harts supply b = Reached (machine_in terms) terms harts (flat_at_start image harts) supply b

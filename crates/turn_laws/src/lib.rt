@@ -4,16 +4,17 @@
 
 ghost use Rattle.turn_laws.specs.EndLaws.{BoardsAreInRange, FaultIsAtConsole, FullIsFull, ListsAreInRange};
 ghost use Rattle.turn_laws.specs.EndLaws.{ListsTell, RoundsAreInRange, RoundsTell};
-ghost use Rattle.turn_laws.specs.Laws.{ClaimsAreOne, ClashesAreOne, ClosesExtend, ClosesLead, HoldsAreOne};
-ghost use Rattle.turn_laws.specs.Laws.{LastLegsAtOnce, LastTurnsExtend, LastTurnsGoOn, LastTurnsLead, LegsAre};
-ghost use Rattle.turn_laws.specs.Laws.{LegsAreShort, LegsAtOnce, LegsEndSooner, LegsStay, ListsAreCut, ListsExtend};
-ghost use Rattle.turn_laws.specs.Laws.{ListsGoOn, ListsLead, MovesAreOfLegs, MovesKeep, MovesLeaveOthers};
-ghost use Rattle.turn_laws.specs.Laws.{NeedsAreOne, PollsBegin, PollsGrow, PollsStay, PollsTell, ReachedAreCrew};
-ghost use Rattle.turn_laws.specs.Laws.{ReachedArePolled, ReachedExtend, RecordingsExtend, RecordingsInRoundsExtend};
-ghost use Rattle.turn_laws.specs.Laws.{RoundExtends, RoundsAreNotCut, RoundsAreOne, RoundsExtend, RoundsLead};
-ghost use Rattle.turn_laws.specs.Laws.{RunsStay, SizesBegin, SizesGrow, SizesStay, StepsExtend, StepsGoOn};
-ghost use Rattle.turn_laws.specs.Laws.{SweepsExtend, SweepsGoOn, SweepsLead, TurnsAreShort, TurnsClose, TurnsExtend};
-ghost use Rattle.turn_laws.specs.Laws.{WaitsBegin, WaitsFollow, WaitsStay, WaitsTell};
+ghost use Rattle.turn_laws.specs.Laws.{ClaimsAreOne, ClashesAreOne, ClosesExtend, ClosesLead, HartsAllCome};
+ghost use Rattle.turn_laws.specs.Laws.{HartsComeOnce, HoldsAreOne, LastLegsAtOnce, LastTurnsExtend, LastTurnsGoOn};
+ghost use Rattle.turn_laws.specs.Laws.{LastTurnsLead, LegsAre, LegsAreShort, LegsAtOnce, LegsEndSooner, LegsStay};
+ghost use Rattle.turn_laws.specs.Laws.{ListsAreCut, ListsExtend, ListsGoOn, ListsLead, MovesAreOfLegs, MovesKeep};
+ghost use Rattle.turn_laws.specs.Laws.{MovesLeaveOthers, NeedsAreOne, PollsBegin, PollsGrow, PollsStay, PollsTell};
+ghost use Rattle.turn_laws.specs.Laws.{ReachedAreCrew, ReachedArePolled, ReachedExtend, RecordingsExtend};
+ghost use Rattle.turn_laws.specs.Laws.{RecordingsInRoundsExtend, RoundExtends, RoundsAreNotCut, RoundsAreOne};
+ghost use Rattle.turn_laws.specs.Laws.{RoundsBeginStill, RoundsExtend, RoundsLead, RunsStay, SizesBegin, SizesGrow};
+ghost use Rattle.turn_laws.specs.Laws.{SizesStay, StepsExtend, StepsGoOn, SuppliesAreJoined, SweepsExtend};
+ghost use Rattle.turn_laws.specs.Laws.{SweepsGoOn, SweepsLead, TurnsAreShort, TurnsClose, TurnsExtend, WaitsBegin};
+ghost use Rattle.turn_laws.specs.Laws.{WaitsFollow, WaitsStay, WaitsTell};
 
 /// What console and clock give after a turn changes nothing of it; so code can know their answers as they come.
 pub fn turns_extend()
@@ -29,6 +30,7 @@ pub fn turns_extend()
     ensures go_on { ListsGoOn }
     ensures sweeps_go_on { SweepsGoOn }
     ensures last_go_on { LastTurnsGoOn }
+    ensures joined { SuppliesAreJoined }
     ensures steps { StepsExtend }
     ensures steps_go_on { StepsGoOn }
 {}
@@ -66,6 +68,13 @@ pub fn causes_are_exact()
 /// Of one board, and of what console and clock have to give, there is one recording in rounds.
 pub fn rounds_are_one()
     ensures { RoundsAreOne }
+{}
+
+/// A round comes to each hart once, and the first one finds no leg.
+pub fn rounds_go_round()
+    ensures once { HartsComeOnce }
+    ensures all { HartsAllCome }
+    ensures first { RoundsBeginStill }
 {}
 
 /// The size of the log is a running number: the frame's, and each entry's.

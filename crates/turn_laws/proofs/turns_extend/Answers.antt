@@ -2,7 +2,7 @@ use Rattle.turn_model.specs.Laws.{machine_in}
 use Rattle.turn_laws.proofs.MoreAnswers.{turn_carried, listed_carried, closed_carried, sweep_carried, round_carried, rounds_carried, last_carried}
 use Rattle.turn_laws.proofs.MoreAnswers.{list_recorded}
 use Rattle.turn_laws.proofs.MoreAnswers.{rounds_recorded, steps_extend, steps_go_on}
-use Rattle.turn_laws.proofs.GoingOn.{listed_behind, sweep_behind, last_behind}
+use Rattle.turn_laws.proofs.GoingOn.{joined, listed_behind, sweep_behind, last_behind}
 use Rattle.turn_laws.proofs.turns_extend.Goals as goal
 
 pub returns-clause-turn : goal.returns-clause-turn
@@ -40,6 +40,9 @@ returns-clause-sweeps_go_on c terms = sweep_behind (machine_in terms) terms
 
 pub returns-clause-last_go_on : goal.returns-clause-last_go_on
 returns-clause-last_go_on c terms = last_behind (machine_in terms) terms
+
+pub returns-clause-joined : goal.returns-clause-joined
+returns-clause-joined c = joined
 
 pub returns-clause-steps : goal.returns-clause-steps
 returns-clause-steps c terms = steps_extend (machine_in terms) terms
