@@ -108,7 +108,8 @@ reached_with p h n given c reached is none = by (is_fault p.closed) where
     followed_by reached.0 given,
     subst (λ o. Reached the_machine (terms_of p) p.harts (flat_at_start p.image p.harts) (followed_by reached.0 given) (board_of p o))
         (first_spent given ∙ sym (then_spent given))
-        (reached_extend the_machine (terms_of p) p.harts (flat_at_start p.image p.harts) reached.0 given (board_of p spent) reached.1 running),
+        (reached_extend the_machine (terms_of p) p.harts (flat_at_start p.image p.harts) reached.0 given (board_of p spent) reached.1
+            (λ fault. absurd (running fault))),
   )
 
 -- what a run has of pages

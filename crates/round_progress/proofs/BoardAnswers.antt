@@ -22,8 +22,7 @@ use Rattle.replay_model.specs.Board.{board, next_access, hart_access}
 use Rattle.shared_types.proofs.Lists.{mapped, bound_to, found_at}
 use Rattle.turn_model.specs.Recordable.{board_machine}
 use Rattle.turn_model.specs.Laws.{IsPagedBoard}
-use Rattle.round_progress.specs.Laws.{IsThere}
-use Rattle.round_progress.proofs.Demands.{IsAnswering}
+use Rattle.round_progress.proofs.Demands.{IsAnswering, IsThere}
 
 timed_there : (d : Devices) (now half : ℕ) → IsThere (timed d (max d.mtime now) half)
 timed_there d now half =

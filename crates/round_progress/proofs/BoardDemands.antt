@@ -1,5 +1,5 @@
 -- The board is what a round's progress asks of a machine.
-use Rattle.std.proofs.Common.{◌≡◌, ℕ, ◌+◌, ◌%◌, ◌<◌, ◌≤◌, ◌==◌, ◌&&◌, ◌||◌, Bool, true, false, not, List, [], ◌∷◌, length, map, Option, Some, None}
+use Rattle.std.proofs.Common.{◌≡◌, ℕ, ◌+◌, ◌%◌, ◌<◌, ◌==◌, ◌&&◌, ◌||◌, Bool, true, false, not, List, [], ◌∷◌, map, Option, Some, None}
 use Rattle.std.proofs.Common.{slice_get, slice_set, nat_lt, is_some, refl, sym, ap, ◌∙◌, subst, inl, inr, arith, if◌then◌else◌, true≢false}
 use Rattle.std.specs.Option.{option_map, option_and_then, option_map_or}
 use Rattle.std.specs.List.{range_with_len}
@@ -24,13 +24,11 @@ use Rattle.rv_decode.specs.Table.{meaning}
 use Rattle.rv_hart.specs.State.{Hart}
 use Rattle.rv_hart.specs.Values.{load_size, store_size, branch_taken, does_write}
 use Rattle.rv_hart.specs.Effects.{reg, is_device, is_reserved, load_effect, store_effect, atomic_effect, conditional_effect, jump, upper_effect, csr_effect}
-use Rattle.rv_hart.specs.Effects.{instr_effect, decoded_effect, effect_of, entry_by, address, word_plus, without_bit_0}
+use Rattle.rv_hart.specs.Effects.{instr_effect, decoded_effect, entry_by, address, word_plus, without_bit_0}
 use Rattle.rv_hart.specs.Moves.{hart_at_start, need_of, with_reserved}
 use Rattle.rv_hart.specs.Needs.{page_at, data_pages, pages_needed}
 use Rattle.rv_hart.specs.declared.effect.Effect.{Effect}
 use Rattle.rv_hart.specs.declared.effect.Effect.TheVariants.{Sets, Jumps, Loads, Stores, Reserves, Commits, Fails, Updates, DeviceLoads, DeviceStores, Traps}
-use Rattle.rv_hart.specs.declared.effect.Need.{Need}
-use Rattle.rv_hart.specs.declared.effect.Need.TheVariants as need
 use Rattle.rv_hart.specs.declared.effect.Wrote.{Wrote}
 use Rattle.rv_hart.specs.declared.effect.Wrote.TheVariants as wrote
 use Rattle.device_board.specs.Accesses.{touched, MadeAgain}
@@ -50,8 +48,8 @@ use Rattle.turn_model.specs.Faithful.{IsFaithful}
 use Rattle.turn_model.proofs.BoardFacts.{board_faithful}
 use Rattle.turn_model.proofs.BoardNeeds.{Divides}
 use Rattle.rv_words.specs.Limits.{IsUnit}
-use Rattle.round_progress.specs.Laws.{IsThere}
-use Rattle.round_progress.proofs.Demands.{IsAnswering, IsPlain, IsFitting}
+use Rattle.turn_laws.proofs.TurnSizes.{board_short}
+use Rattle.round_progress.proofs.Demands.{IsAnswering, IsPlain, IsFitting, IsThere}
 use Rattle.round_progress.proofs.BoardAnswers.{board_answers}
 
 -- harts that know so many harts
@@ -273,20 +271,6 @@ pages_same unit x (Some word) = by (meaning word) where
   by None = refl
   by (Some i) = ap (λ (ns : List (ℕ × Mode)). (page_at unit x.pc, Read) ∷ ns) (instr_needs unit x i word)
 
-data_short : (unit : ℕ) (n : Need) → length (data_pages unit n) ≤ 1
-data_short unit (need.Load at) = omega arith
-data_short unit (need.Store at) = omega arith
-data_short unit (need.Exclusive at) = omega arith
-data_short unit (need.Device access) = omega arith
-data_short unit need.Nothing = omega arith
-
-needs_short : (unit : ℕ) (memory : List ℕ) (o : Option Hart) → length (option_map_or (λ x. pages_needed unit x (fetched x memory)) o []) ≤ 2
-needs_short unit memory None = omega arith
-needs_short unit memory (Some x) = by (fetched x memory) where
-  by : (w : Option ℕ) → length (pages_needed unit x w) ≤ 2
-  by None = omega arith
-  by (Some word) = let l = data_short unit (need_of (effect_of x word)) in omega (arith, l)
-
 keeps_need : (unit : ℕ) (s t : FlatState) (h : ℕ) → next (Lose h) s ≡ Some t → (board unit).need t h ≡ (board unit).need s h
 keeps_need unit s t h is =
     let x = mapped (lost s h) (slice_get s.harts h) t is in
@@ -326,7 +310,7 @@ runs_there unit harts pages s h on inside off =
 
 pub board_plain : (unit harts pages : ℕ) → IsPlain (board_machine unit) harts (IsFitting harts pages)
 board_plain unit harts pages = record {
-  short = λ s h on. needs_short unit s.memory (slice_get s.harts h);
+  short = λ s h on. board_short unit s h;
   keeps = λ s t h on is. keeps_need unit s t h is;
   tells = λ s h on none. tells_device unit s h on.harts_are none;
   runs = λ s h on inside off. runs_there unit harts pages s h on.board inside off;

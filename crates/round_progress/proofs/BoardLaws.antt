@@ -20,7 +20,7 @@ use Rattle.lean_journals.proofs.BoardWants.{board_wants_stay}
 use Rattle.turn_model.proofs.Boards.{reached_begin, closing_begin}
 use Rattle.round_progress.proofs.Demands.{IsFitting}
 use Rattle.round_progress.specs.Measure.{has_leg, rounds_left}
-use Rattle.round_progress.specs.Laws.{TurnsAreThere, ListsAreRecorded, RoundsGoOn, RoundsFall, RoundsAreRecorded, IsFirst}
+use Rattle.round_progress.specs.Laws.{TurnsAreThere, ListsAreRecorded, RoundsGoOn, RoundsFall, RoundsAreRecorded, ComesFirst}
 use Rattle.round_progress.proofs.TurnsThere.{turn_there}
 use Rattle.round_progress.proofs.BoardAnswers.{board_answers}
 use Rattle.round_progress.proofs.BoardDemands.{fitting_faithful, fitting_answers, board_plain, start_fits}
@@ -117,7 +117,7 @@ module _ (terms : Terms) (image : Image) (harts : ℕ) (supply : Supply) (whole 
       → is_over (machine_in terms) terms b ≡ false → round (machine_in terms) terms n (not (n == 0)) b ≡ Some c
       → (is_over (machine_in terms) terms c ≡ true)
       ⊎ (((g : ℕ) × (g < harts) × ((board (unit_in terms)).count b.at.flat g < (board (unit_in terms)).count c.at.flat g))
-      ⊎ ((p : ℕ) × IsFirst terms harts n b p × (0 < whole_leg (machine_in terms) terms p c)))
+      ⊎ ((p : ℕ) × ComesFirst terms harts n b p × (0 < whole_leg (machine_in terms) terms p c)))
   goes_on_at n b c is short one =
       let fine = fine_at n b is in
       let pos =

@@ -1,11 +1,8 @@
 -- On the board, what a hart needs stays while other harts go, where it wants nothing; and so does the first page of every need.
-use Rattle.std.proofs.Common.{◌≡◌, ◌≢◌, ℕ, List, [], ◌∷◌, length, replicate, Option, Some, None, slice_get, refl, sym, ap, ◌∙◌}
+use Rattle.std.proofs.Common.{◌≡◌, ◌≢◌, ℕ, List, [], Option, Some, None, slice_get, refl, ap, ◌∙◌}
 use Rattle.std.proofs.Common.{subst}
-use Rattle.std.specs.List.{enumerate_from}
 use Rattle.std.specs.Option.{option_map_or}
 use Rattle.std.proofs.lemmas.Option.{same_Some}
-use Rattle.std.proofs.lemmas.List.FromFn.{length-enumerate_from}
-use Rattle.rv_words.specs.declared.shared.Cause.TheVariants.{Limit}
 use Rattle.rv_hart.specs.State.{Hart}
 use Rattle.rv_hart.specs.Needs.{pages_needed}
 use Rattle.rv_hart.specs.Effects.{fetch_of}
@@ -18,26 +15,16 @@ use Rattle.flat_machine.specs.Acts.{next}
 use Rattle.flat_machine.specs.Moves.{fetched, fetched_by}
 use Rattle.flat_machine.specs.declared.act.Act.{Act}
 use Rattle.flat_machine.specs.declared.results.Step.{Step}
-use Rattle.orders_law.specs.Orders.{Leads}
 use Rattle.replay_model.specs.Board.{board}
-use Rattle.turn_model.specs.Board.{unit_in, Terms}
-use Rattle.order_rules.specs.Holders.{nobody}
+use Rattle.turn_model.specs.Board.{Supply, Terms, unit_in}
 use Rattle.replay_model.specs.State.{Replay, want}
 use Rattle.replay_model.specs.Items.{Item, CanGo, verdict_on, step}
-use Rattle.crew_recording.specs.Recording.{first_recording, log_of_recording}
-use Rattle.std.proofs.lemmas.List.{length-map}
-use Rattle.crew_recording.proofs.Obedience.{full}
-use Rattle.crew_recording.proofs.Behind.{ordered_all}
-use Rattle.crew_recording.proofs.Steady.{no_place}
-use Rattle.crew_recording.proofs.Whole.{first_ordered, orderly}
-use Rattle.replay_law.specs.Laws.{IsReplayable, first_replay}
 use Rattle.replay_law.proofs.Local.{actor, HasPages}
 use Rattle.replay_law.proofs.Steps.{act_of, flat_after, step_went}
 use Rattle.replay_law.proofs.Verdicts.{act_is}
-use Rattle.replay_law.proofs.Views.{Shape, Sound, shape_of}
+use Rattle.replay_law.proofs.Views.{Shape, Sound}
 use Rattle.replay_law.proofs.Boards.{made_of, board_local}
-use Rattle.replay_law.proofs.Orders.{good_first, good_along}
-use Rattle.lean_journals.proofs.BoardWants.{one_step}
+use Rattle.turn_laws.proofs.ReachedBoards.{shape_in, known_sound, known_step}
 use Rattle.turn_model.specs.Laws.{IsPagedBoard, machine_in}
 use Rattle.turn_model.specs.Faithful.{IsFaithful}
 use Rattle.round_progress.proofs.OtherHarts.{NeedsStay, first_of}
@@ -90,40 +77,6 @@ pub board_needs_stay : (terms : Terms) (image : Image) (harts : ℕ)
     → IsPagedBoard harts terms.pages (flat_at_start image harts) → IsWhole image
     → NeedsStay (machine_in terms) terms harts (IsPagedBoard harts terms.pages) faithful (flat_at_start image harts)
 board_needs_stay terms image harts faithful pages starts whole r m items g h item known one other =
-    let first =
-    first_ordered (board (unit_in terms)) harts (IsPagedBoard harts terms.pages) faithful.steady faithful.timed terms.pages terms.limit
-    (flat_at_start image harts) starts (no_place harts) in
-    let begin = first_recording terms.pages harts (flat_at_start image harts) in
-    let ordered =
-    ordered_all (board (unit_in terms)) harts
-    (IsPagedBoard harts terms.pages) faithful.steady faithful.timed terms.pages terms.limit begin r items known.0 known.1 first in
-    let log = log_of_recording (board (unit_in terms)) terms.pages terms.limit terms.image Limit r in
-    let alike : harts ≡ length log.streams = sym (length-map (enumerate_from 0 r.streams) _ ∙ length-enumerate_from 0 r.streams ∙ ordered.tidy.streams) in
-    let is : IsReplayable log image = record {
-      orderly =
-          orderly (board (unit_in terms)) harts (IsPagedBoard harts terms.pages) faithful.steady faithful.timed terms.pages terms.limit
-          (flat_at_start image harts) starts (no_place harts) terms.image Limit items r known.0 known.1;
-      whole = whole;
-      pages = pages;
-    } in
-    let so_far =
-    full (board (unit_in terms)) harts (IsPagedBoard harts terms.pages) faithful.steady terms.pages terms.limit terms.image Limit begin r items
-    known.0 first.tidy in
-    let good =
-    good_along log image is (first_replay log image) r.at so_far.0 (good_first log image is)
-    (subst (λ k. Leads (step (board (unit_in terms)) log) (from k) so_far.0 r.at) alike so_far.2.leads) in
-    let then =
-    full (board (unit_in terms)) harts (IsPagedBoard harts terms.pages) faithful.steady terms.pages terms.limit terms.image Limit r m
-    ((g, item) ∷ []) one.0 ordered.tidy in
-    let next = one_step (log_of_recording (board (unit_in terms)) terms.pages terms.limit terms.image Limit m) g r.at m.at then.0 then.1 then.2.leads in
-    step_stays (shape_of log)
-    (log_of_recording (board (unit_in terms)) terms.pages terms.limit terms.image Limit m) r.at m.at g h next.0 good.sound other next.1
-  where
-    -- the first state of a replay with so many harts
-    from : ℕ → Replay FlatState
-    from k =
-        record {
-          flat = flat_at_start image k;
-          cursor = record { places = replicate k 0; numbers = replicate terms.pages 0; ordinal = 0 };
-          holders = nobody terms.pages k;
-        }
+    let nothing : Supply = record { answers = []; takes = 0; times = [] } in
+    let next = known_step terms image harts nothing pages r m items g item known one in
+    step_stays (shape_in terms harts) next.0 r.at m.at g h next.1.0 (known_sound terms image harts nothing pages whole r items known) other next.1.1

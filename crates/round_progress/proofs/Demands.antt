@@ -1,5 +1,5 @@
 -- What a turn's progress asks of a machine.
-use Rattle.std.specs.Prelude.{ℕ, ◌≡◌, ◌<◌, ◌≤◌, false, List, [], ◌∷◌, length, slice_get, Option, Some, None}
+use Rattle.std.specs.Prelude.{ℕ, ◌≡◌, ◌<◌, ◌≤◌, false, length, slice_get, Option, Some, None}
 use Rattle.rv_words.specs.declared.shared.DeviceWord.{DeviceWord}
 use Rattle.rv_hart.specs.State.{Hart}
 use Rattle.outside.specs.declared.console.Asked.{Asked}
@@ -8,11 +8,9 @@ use Rattle.flat_machine.specs.State.{FlatState}
 use Rattle.flat_machine.specs.declared.act.Act.TheVariants.{Run, Touch, Poll, Lose}
 use Rattle.turn_model.specs.Recordable.{Recordable}
 use Rattle.turn_model.specs.Laws.{IsPagedBoard}
-use Rattle.round_progress.specs.Laws.{IsThere}
 
-abbrev pub EachBelow : ℕ → List ℕ → Type 0
-EachBelow n [] = Unit {0}
-EachBelow n (h ∷ hs) = (h < n) × EachBelow n hs
+abbrev pub IsThere : {A : Type 0} → Option A → Type 0
+IsThere {A} o = (a : A) × (o ≡ Some a)
 
 -- where stop isn't set, a hart of the board can poll at a time that isn't past, and make its device access with the input that is
 -- recorded; and it can lose its reservation

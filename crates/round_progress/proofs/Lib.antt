@@ -7,7 +7,6 @@ pub mod Yields
 pub mod OwnTurns
 pub mod OtherHarts
 pub mod FirstHart
-pub mod Ranks
 pub mod Rounds
 pub mod Measure
 pub mod BoardDemands

@@ -1,8 +1,8 @@
 -- Where the clock has answers enough, lists of turns and sweeps are there.
-use Rattle.std.proofs.Common.{◌≡◌, ℕ, zero, suc, ◌+◌, ◌*◌, ◌%◌, ◌<◌, ◌≤◌, ◌==◌, Bool, true, false, List, [], ◌∷◌, ◌++◌, length, map, min, Some, refl, ap, ◌∙◌}
+use Rattle.std.proofs.Common.{◌≡◌, ℕ, zero, suc, ◌+◌, ◌*◌, ◌%◌, ◌<◌, ◌≤◌, ◌==◌, Bool, true, false, List, [], ◌∷◌, length, map, min, Some, refl, ap, ◌∙◌}
 use Rattle.std.proofs.Common.{subst, arith, if◌then◌else◌}
 use Rattle.std.specs.Option.{option_map, option_and_then}
-use Rattle.std.proofs.Math.Nat.{mod-lt, min-le_right}
+use Rattle.std.proofs.Math.Nat.{min-le_right}
 use Rattle.std.proofs.lemmas.List.{length-append, length-map}
 use Rattle.rv_words.specs.declared.shared.Cause.TheVariants.{Cut}
 use Rattle.orders_law.specs.Orders.{below}
@@ -13,25 +13,10 @@ use Rattle.turn_model.specs.Lists.{whole_leg, listed, closed_after, comes_to, re
 use Rattle.turn_model.specs.Rounds.{round_from, with_favoured, sweep, round, last_turns}
 use Rattle.turn_model.specs.Faithful.{IsFaithful}
 use Rattle.turn_model.specs.Laws.{OfHarts}
-use Rattle.round_progress.specs.Laws.{IsThere}
-use Rattle.round_progress.proofs.Demands.{IsAnswering, EachBelow}
+use Rattle.round_progress.proofs.Demands.{IsAnswering, IsThere}
+use Rattle.turn_laws.specs.GivenLegs.{EachBelow}
+use Rattle.turn_laws.proofs.ReachedLists.{each_below, round_below, of_each}
 use Rattle.round_progress.proofs.TurnsThere.{Has, turn_there}
-
-pub each_more : (n : ℕ) (xs : List ℕ) (h : ℕ) → EachBelow n xs → h < n → EachBelow n (xs ++ h ∷ [])
-each_more n [] h all l = (l, tt)
-each_more n (x ∷ xs) h all l = (all.0, each_more n xs h all.1 l)
-
-pub each_below : (n k : ℕ) → k ≤ n → EachBelow n (below k)
-each_below n zero l = tt
-each_below n (suc k) l = each_more n (below k) k (each_below n k (omega (arith, l))) (omega (arith, l))
-
-each_round : (n r : ℕ) (xs : List ℕ) → zero < n → EachBelow n (map (λ i. (r + i) % n) xs)
-each_round n r [] l = tt
-each_round n r (x ∷ xs) l = (mod-lt (r + x) l, each_round n r xs l)
-
-pub round_below : (n r : ℕ) → EachBelow n (map (λ i. (r + i) % n) (below n))
-round_below zero r = tt
-round_below (suc n) r = each_round (suc n) r (below (suc n)) (omega arith)
 
 pub size_below : (n : ℕ) → length (below n) ≡ n
 size_below zero = refl
@@ -40,10 +25,6 @@ size_below (suc n) = let a = length-append (below n) (n ∷ []) in let e = size_
 -- turns without moves
 abbrev still : List ℕ → List (ℕ × ℕ)
 still hs = map (λ (h : ℕ). (h, 0)) hs
-
-of_each : (n : ℕ) (hs : List ℕ) → EachBelow n hs → OfHarts n (still hs)
-of_each n [] each = tt
-of_each n (h ∷ hs) each = (each.0, of_each n hs each.1)
 
 module _ {S V : Type 0} (machine : Recordable S V) (terms : Terms) (many pages : ℕ) (Good : S → Type 0) (faithful : IsFaithful machine.flat many pages Good)
     (answers : IsAnswering machine many Good) where

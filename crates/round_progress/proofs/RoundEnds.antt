@@ -17,7 +17,8 @@ use Rattle.turn_model.proofs.LeanJournals.{WantsStay}
 use Rattle.round_progress.proofs.Demands.{IsAnswering, IsPlain}
 use Rattle.round_progress.specs.Measure.{left_of, has_leg, rounds_left}
 use Rattle.round_progress.proofs.OtherHarts.{NeedsStay}
-use Rattle.round_progress.proofs.ListsAndSweeps.{HasB, round_there, last_there, each_below, size_below}
+use Rattle.turn_laws.proofs.ReachedLists.{each_below}
+use Rattle.round_progress.proofs.ListsAndSweeps.{HasB, round_there, last_there, size_below}
 use Rattle.round_progress.proofs.FirstHart.{size_of}
 use Rattle.round_progress.proofs.Rounds.{FineB}
 use Rattle.round_progress.proofs.FurtherRounds.{rounds_more}

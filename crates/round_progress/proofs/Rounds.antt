@@ -17,7 +17,7 @@ use Rattle.turn_model.proofs.LeanJournals.{WantsStay}
 use Rattle.turn_model.proofs.Boards.{can_leg, no_leg}
 use Rattle.round_progress.proofs.Demands.{IsPlain}
 use Rattle.round_progress.proofs.OtherHarts.{NeedsStay, turn_same}
-use Rattle.round_progress.proofs.Ranks.{at_rank, rank, at_inside, rank_inside, rank_at, at_of, same_rank}
+use Rattle.turn_laws.proofs.Ranks.{at_rank, rank, at_inside, rank_inside, rank_at, at_of, same_rank}
 use Rattle.round_progress.proofs.FirstHart.{Fine, sound_of, size_of, MovesOf, fine_favoured, behind_of, fine_turn, went, Won, counts_rise, won_turn, Ready}
 use Rattle.round_progress.proofs.FirstHart.{Stands, fewer, other_turn, Leads, Nobody, Everybody, first_turn, next_turn, at_last}
 

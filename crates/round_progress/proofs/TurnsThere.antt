@@ -30,8 +30,7 @@ use Rattle.turn_model.specs.Turn.{turn, ended_by, with_rows, with_order, items_m
 use Rattle.turn_model.specs.Lists.{leg, leg_by, whole_leg}
 use Rattle.turn_model.specs.Faithful.{IsFaithful}
 use Rattle.turn_model.proofs.Entries.{after_entry, can_and_does}
-use Rattle.round_progress.specs.Laws.{IsThere}
-use Rattle.round_progress.proofs.Demands.{IsAnswering}
+use Rattle.round_progress.proofs.Demands.{IsAnswering, IsThere}
 
 max_right : (a b : ℕ) → b ≤ max a b
 max_right a b = omega arith

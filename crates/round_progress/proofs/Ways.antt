@@ -15,7 +15,7 @@ use Rattle.flat_machine.specs.declared.act.Act.TheVariants.{Touch, Poll, Lose}
 use Rattle.order_rules.specs.Holders.{Holders, row, held, with_held}
 use Rattle.replay_model.specs.State.{Replay}
 use Rattle.replay_model.specs.Items.{Makes, made, acted, effect, past, holds, ends_reservation}
-use Rattle.shared_types.proofs.Lists.{mapped, neither_there}
+use Rattle.shared_types.proofs.Lists.{mapped}
 use Rattle.std.proofs.lemmas.List.{length-set}
 use Rattle.std.proofs.lemmas.Bool.{le-ltb, ltb-true, le-leb, ltb-false, lt-ltb, leb-false, leb-true}
 use Rattle.crew_recording.proofs.OrderedRecordings.{acts_on, did_entry}
@@ -88,9 +88,6 @@ in_below (suc n) p l = elim (eqb_tells p n) [
   | inl (t, same) ↦ in_more p (below n) (n ∷ []) (inr (inl same))
   | inr (f, other) ↦ in_more p (below n) (n ∷ []) (inl (in_below n p (omega (arith, l, other))))
 ]
-
-pub none_of : {X : Type 0} (a b : Option X) → option_or a b ≡ None → (a ≡ None) × (b ≡ None)
-none_of a b e = neither_there a b e
 
 -- and where none passes, none is found
 pub none_found : (test : ℕ → Bool) (n : ℕ) → ((i : ℕ) → i < n → test i ≡ false) → find test (below n) ≡ None

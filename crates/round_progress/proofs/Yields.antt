@@ -27,7 +27,8 @@ use Rattle.turn_model.specs.Steps.{passes_favour, console_gives, clock_gives, cl
 use Rattle.turn_model.specs.Steps.{polls_with, polls, yield_of, yields_now, yields_for, yields_to, yields, gain_of, gains_unless, gains_page, gains, touch_of}
 use Rattle.turn_model.specs.Steps.{touched, touches_at, touches_with, accesses, touches, goes_on}
 use Rattle.turn_model.specs.Faithful.{IsFaithful}
-use Rattle.round_progress.proofs.Ways.{Out, further, choice, once, In, in_below, none_of, held_set, held_inside, both_true, did, Same, no_and, one_false}
+use Rattle.shared_types.proofs.Lists.{neither_there}
+use Rattle.round_progress.proofs.Ways.{Out, further, choice, once, In, in_below, held_set, held_inside, both_true, did, Same, no_and, one_false}
 use Rattle.round_progress.proofs.Ways.{not_before}
 use Rattle.round_progress.proofs.Ways.{same_entry}
 
@@ -189,7 +190,7 @@ module _ {S V : Type 0} (machine : Recordable S V) (terms : Terms) (many pages :
         clear_set c d k.0 (Some k.1) y.holders clear (λ here.
         let free =
         none_below (λ i. stands_before c i g && is_some_and (wanted c i) (λ w. (w.0 == k.0) && conflicts w.1 k.1)) (length c.streams)
-        (none_of (clash c g k) (rival c g k) none).1 p (let z = same.size in omega (arith, z, inside)) in
+        (neither_there (clash c g k) (rival c g k) none).1 p (let z = same.size in omega (arith, z, inside)) in
         let wants = one_false (stands_before c p g) _ free (same_before b c p g same ∙ before) in
         let so : ((n.0 == k.0) && conflicts n.1 k.1) ≡ false =
         sym (ap (λ o. is_some_and o (λ w. (w.0 == k.0) && conflicts w.1 k.1)) (same_want b c p same ∙ asked)) ∙ wants in

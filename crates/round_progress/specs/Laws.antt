@@ -1,5 +1,5 @@
--- What holds of each recording of a board in rounds, and when there is one.
-use Rattle.std.specs.Prelude.{ℕ, ◌≡◌, ◌≢◌, ◌⊎◌, ◌+◌, ◌-◌, ◌*◌, ◌%◌, ◌<◌, ◌≤◌, ◌==◌, nat_lt, not, true, false, List, length, Option, Some}
+-- What holds of each recording of a board in rounds, and when there is one (docs/recorder.md).
+use Rattle.std.specs.Prelude.{ℕ, ◌≡◌, ◌≢◌, ◌⊎◌, ◌+◌, ◌-◌, ◌*◌, ◌%◌, ◌<◌, ◌≤◌, ◌==◌, nat_lt, not, true, false, List, length, Some}
 use Rattle.elf_image.specs.Image.{Image, IsWhole}
 use Rattle.flat_machine.specs.State.{FlatState}
 use Rattle.turn_model.specs.Board.{Board, Supply, Terms, count, is_over}
@@ -8,9 +8,6 @@ use Rattle.turn_model.specs.Lists.{Recorded, whole_leg, recorded_by_list}
 use Rattle.turn_model.specs.Rounds.{round, rounds, IsRecordedInRounds}
 use Rattle.turn_model.specs.Laws.{IsPagedBoard, OfHarts, machine_in, first_board}
 use Rattle.round_progress.specs.Measure.{rounds_left}
-
-abbrev pub IsThere : {A : Type 0} → Option A → Type 0
-IsThere {A} o = (a : A) × (o ≡ Some a)
 
 -- a turn with moves of the hart's leg asks the clock at most twice, and where the clock has two answers left there is a board behind it
 abbrev pub TurnsAreThere : Type 0
@@ -24,7 +21,7 @@ TurnsAreThere = (terms : Terms) (harts pages h n : ℕ) (b : Board FlatState)
 abbrev pub ListsAreRecorded : Type 0
 ListsAreRecorded = (terms : Terms) (image : Image) (harts : ℕ) (supply : Supply) (list : List (ℕ × ℕ))
     → OfHarts harts list → 2 * (length list + harts) ≤ length supply.times
-    → IsThere (recorded_by_list (machine_in terms) terms list (first_board terms image harts supply))
+    → (r : Recorded FlatState) × (recorded_by_list (machine_in terms) terms list (first_board terms image harts supply) ≡ Some r)
 
 -- so many rounds lead from the start of an image to this board
 abbrev pub IsBehindRounds : Terms → Image → ℕ → Supply → ℕ → Board FlatState → Type 0
@@ -35,15 +32,15 @@ abbrev pub IsRound : Terms → ℕ → Board FlatState → Board FlatState → T
 IsRound terms n b c = (is_over (machine_in terms) terms b ≡ false) × (round (machine_in terms) terms n (not (n == 0)) b ≡ Some c)
 
 -- how far a hart comes behind the hart of a round
-abbrev pub rank_in : ℕ → ℕ → ℕ → ℕ
-rank_in harts n h = (h + harts - n % harts) % harts
+abbrev pub rank_from : ℕ → ℕ → ℕ → ℕ
+rank_from harts n h = (h + harts - n % harts) % harts
 
 -- of the harts below the limit this one comes first, from the round's hart on
-pub record IsFirst (terms : Terms) (harts n : ℕ) (b : Board FlatState) (p : ℕ) : Type 0 where
+pub record ComesFirst (terms : Terms) (harts n : ℕ) (b : Board FlatState) (p : ℕ) : Type 0 where
   pub inside : p < harts
   pub below : count (machine_in terms) terms b p < terms.limit
   pub first : (g : ℕ) → g < harts → g ≢ p
-      → (count (machine_in terms) terms b g ≡ terms.limit) ⊎ (nat_lt (rank_in harts n p) (rank_in harts n g) ≡ true)
+      → (count (machine_in terms) terms b g ≡ terms.limit) ⊎ (nat_lt (rank_from harts n p) (rank_from harts n g) ≡ true)
 
 -- a hart made a move from one board to another
 abbrev pub HasMoved : Terms → ℕ → Board FlatState → Board FlatState → Type 0
@@ -55,7 +52,7 @@ abbrev pub RoundsGoOn : Type 0
 RoundsGoOn = (terms : Terms) (image : Image) (harts : ℕ) (supply : Supply) (n : ℕ) (b c : Board FlatState)
     → IsWhole image → terms.pages ≡ image.pages → IsBehindRounds terms image harts supply n b → IsRound terms n b c
     → (is_over (machine_in terms) terms c ≡ true)
-    ⊎ (HasMoved terms harts b c ⊎ ((p : ℕ) × IsFirst terms harts n b p × (0 < whole_leg (machine_in terms) terms p c)))
+    ⊎ (HasMoved terms harts b c ⊎ ((p : ℕ) × ComesFirst terms harts n b p × (0 < whole_leg (machine_in terms) terms p c)))
 
 -- less is left behind each round that doesn't end the run
 abbrev pub RoundsFall : Type 0

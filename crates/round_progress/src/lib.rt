@@ -1,5 +1,6 @@
 //! Where the clock has answers enough, turns, lists and rounds are there; each round goes on, and rounds end
-//! (docs/recorder.md): laws of the recorder's turns. The functions have no bodies: they promise the laws.
+//! (docs/recorder.md): laws of the recorder's turns. That boards behind rounds are reached by turns is a law of
+//! `turn_laws`. The functions have no bodies: they promise the laws.
 #![tactic(auto)]
 
 ghost use Rattle.round_progress.specs.Laws.{FewAreLeft, ListsAreRecorded, RoundsAreRecorded, RoundsFall, RoundsFollow};

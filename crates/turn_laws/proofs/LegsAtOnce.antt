@@ -1,10 +1,8 @@
 -- The legs of a round may be taken all at once.
-use Rattle.std.proofs.Common.{◌≡◌, ◌≢◌, ◌⊎◌, inl, inr, ℕ, zero, suc, ◌+◌, ◌-◌, ◌%◌, ◌<◌, ◌≤◌, ◌==◌, Bool, true, false, List, [], ◌∷◌, ◌++◌, length, map}
+use Rattle.std.proofs.Common.{◌≡◌, ◌≢◌, ℕ, zero, suc, ◌+◌, ◌%◌, ◌<◌, ◌≤◌, ◌==◌, Bool, true, false, List, [], ◌∷◌, ◌++◌, length, map}
 use Rattle.std.proofs.Common.{Option, Some, None, unwrap_or, slice_get, replicate, refl, sym, ap, ◌∙◌, subst, arith, if◌then◌else◌}
 use Rattle.std.specs.Option.{option_and_then}
 use Rattle.std.proofs.lemmas.Option.{same_Some}
-use Rattle.std.proofs.lemmas.Bool.Decides.{leb_tells}
-use Rattle.std.proofs.Math.Nat.{mod-lt, mod-add-mod, add-mod_left, mod-eq_of_lt}
 use Rattle.orders_law.specs.Orders.{below}
 use Rattle.elf_image.specs.Image.{Image, IsWhole}
 use Rattle.flat_machine.specs.State.{FlatState}
@@ -15,51 +13,20 @@ use Rattle.turn_model.specs.Rounds.{round_from, with_favoured, sweep, round, las
 use Rattle.turn_model.specs.Turn.{turn}
 use Rattle.turn_laws.specs.Reached.{Begun, Turned, Favours}
 use Rattle.turn_laws.specs.GivenLegs.{EachBelow, sweep_with, last_with}
+use Rattle.turn_laws.proofs.Ranks.{rank, rank_inside, rank_at, at_of}
 use Rattle.turn_laws.proofs.ReachedLists.{each_below, round_below}
 use Rattle.turn_laws.proofs.Legs.{ReachedFrom, reached_are_crew, legs_stay}
 
--- places round a board are apart
-wrap : (n x : ℕ) → zero < n → x < n + n → ((x < n) × (x % n ≡ x)) ⊎ ((n ≤ x) × (x % n + n ≡ x))
-wrap n x pos l = elim (leb_tells n x) [
-  | inr (f, m) ↦ inl (omega (arith, m), mod-eq_of_lt (omega (arith, m)))
-  | inl (t, m) ↦
-      let e : x ≡ n + (x - n) = omega (arith, m) in
-      let z : x % n ≡ x - n = ap (λ k. k % n) e ∙ add-mod_left n (x - n) ∙ mod-eq_of_lt (omega (arith, l, m)) in
-      inr (m, omega (arith, z, m))
-]
-
-apart_by : (n f i j y : ℕ) → f < n → i < n → j < n → ((f + i < n) × (y ≡ f + i)) ⊎ ((n ≤ f + i) × (y + n ≡ f + i)) → ((f + j < n) × (y ≡ f + j))
-    ⊎ ((n ≤ f + j) × (y + n ≡ f + j)) → i ≡ j
-apart_by n f i j y lf li lj (inl (a, b)) (inl (c, d)) = omega (arith, lf, li, lj, a, b, c, d)
-apart_by n f i j y lf li lj (inl (a, b)) (inr (c, d)) = omega (arith, lf, li, lj, a, b, c, d)
-apart_by n f i j y lf li lj (inr (a, b)) (inl (c, d)) = omega (arith, lf, li, lj, a, b, c, d)
-apart_by n f i j y lf li lj (inr (a, b)) (inr (c, d)) = omega (arith, lf, li, lj, a, b, c, d)
-
+-- a round comes to each hart once
 pub apart : (n r i j : ℕ) → i < n → j < n → (r + i) % n ≡ (r + j) % n → i ≡ j
 apart n r i j li lj same =
     let pos : zero < n = omega (arith, li) in
-    let f = mod-lt r pos in
-    apart_by n (r % n) i j ((r % n + i) % n) f li lj (wrap n (r % n + i) pos (omega (arith, f, li)))
-    (subst (λ y. ((r % n + j < n) × (y ≡ r % n + j)) ⊎ ((n ≤ r % n + j) × (y + n ≡ r % n + j))) (mod-add-mod r n j ∙ sym same ∙ sym (mod-add-mod r n i))
-    (wrap n (r % n + j) pos (omega (arith, f, lj))))
+    sym (rank_at n r pos i li) ∙ ap (rank n r pos) same ∙ rank_at n r pos j lj
 
--- and each is there
 pub all_come : (n r h : ℕ) → h < n → (i : ℕ) × (i < n) × ((r + i) % n ≡ h)
 all_come n r h l =
     let pos : zero < n = omega (arith, l) in
-    let f = mod-lt r pos in
-    let x = h + n - r % n in
-    let i = x % n in
-    let far : x < n + n = omega (arith, l) in
-    let inside = mod-lt x pos in
-    (i, inside, sym (mod-add-mod r n i) ∙ by (r % n) i f inside (wrap n x pos far) (wrap n (r % n + i) pos (omega (arith, f, inside))))
-  where
-    by : (f i : ℕ) → f < n → i < n → ((h + n - f < n) × (i ≡ h + n - f)) ⊎ ((n ≤ h + n - f) × (i + n ≡ h + n - f))
-        → ((f + i < n) × ((f + i) % n ≡ f + i)) ⊎ ((n ≤ f + i) × ((f + i) % n + n ≡ f + i)) → (f + i) % n ≡ h
-    by f i lf li (inl (a, b)) (inl (c, d)) = omega (arith, l, lf, li, a, b, c, d)
-    by f i lf li (inl (a, b)) (inr (c, d)) = omega (arith, l, lf, li, a, b, c, d)
-    by f i lf li (inr (a, b)) (inl (c, d)) = omega (arith, l, lf, li, a, b, c, d)
-    by f i lf li (inr (a, b)) (inr (c, d)) = omega (arith, l, lf, li, a, b, c, d)
+    (rank n r pos h, rank_inside n r pos h, at_of n r pos h l)
 
 -- a hart that isn't in a list
 abbrev NotIn : ℕ → List ℕ → Type 0

@@ -8,6 +8,7 @@ pub mod Counterparts
 pub mod TurnSizes
 pub mod GoingOn
 pub mod ReachedLists
+pub mod Ranks
 pub mod LegsAtOnce
 pub mod Causes
 pub mod FewWaits

@@ -1,5 +1,5 @@
 -- Lists of turns, sweeps, rounds and last turns lead from reached boards to reached boards.
-use Rattle.std.proofs.Common.{◌≡◌, ◌≢◌, refl, ap, Option, unwrap_or, ℕ, zero, suc, ◌+◌, ◌%◌, ◌<◌, ◌≤◌, ◌==◌, not, min, Bool, true, false, List, [], ◌∷◌, ◌++◌}
+use Rattle.std.proofs.Common.{◌≡◌, refl, ap, Option, unwrap_or, ℕ, zero, suc, ◌+◌, ◌%◌, ◌<◌, ◌≤◌, ◌==◌, not, min, Bool, true, false, List, [], ◌∷◌, ◌++◌}
 use Rattle.std.proofs.Common.{length, map, Some, None, subst, arith, if◌then◌else◌}
 use Rattle.std.specs.Option.{option_and_then}
 use Rattle.std.proofs.Math.Nat.{mod-lt, min-le_right}
@@ -15,7 +15,7 @@ use Rattle.turn_model.specs.Rounds.{round_from, with_favoured, sweep, round, rou
 use Rattle.turn_model.specs.Turn.{turn}
 use Rattle.turn_laws.specs.Reached.{Reached, Begun, Turned, Favours, Shut}
 use Rattle.turn_laws.specs.GivenLegs.{EachBelow}
-use Rattle.turn_laws.specs.Supplies.{followed_by, with_more, Extends, IsExtended, Always, NoAnswer, NotTaken}
+use Rattle.turn_laws.specs.Supplies.{IsSpent, followed_by, with_more, Extends, IsExtended, Always, NoAnswer, NotTaken}
 use Rattle.turn_laws.proofs.MoreAnswers.{turn_carried}
 
 each_more : (n : ℕ) (xs : List ℕ) (h : ℕ) → EachBelow n xs → h < n → EachBelow n (xs ++ h ∷ [])
@@ -34,7 +34,7 @@ pub round_below : (n r : ℕ) → EachBelow n (map (λ i. (r + i) % n) (below n)
 round_below zero r = tt
 round_below (suc n) r = each_round (suc n) r (below (suc n)) (omega arith)
 
-of_each : (n : ℕ) (hs : List ℕ) → EachBelow n hs → OfHarts n (map (λ (h : ℕ). (h, 0)) hs)
+pub of_each : (n : ℕ) (hs : List ℕ) → EachBelow n hs → OfHarts n (map (λ (h : ℕ). (h, 0)) hs)
 of_each n [] all = tt
 of_each n (h ∷ hs) all = (all.0, of_each n hs all.1)
 
@@ -110,17 +110,17 @@ module _ {S V : Type 0} (machine : Recordable S V) (terms : Terms) (many : ℕ) 
       one false m e = kept.turned h (whole_leg machine terms h b) b m from each.0 (omega arith) e
 
 module _ {S V : Type 0} (machine : Recordable S V) (terms : Terms) (many : ℕ) (first : S) (supply x : Supply) where
-  goes_further : (run : Board S → Option (Board S)) (b c : Board S) → c.closed ≢ Some Fault → IsExtended run b c → Extends run b c x
-  goes_further run b c running (Always e) = e x
-  goes_further run b c running (NoAnswer k o e) = absurd (running k.1)
-  goes_further run b c running (NotTaken k o e) = absurd (running k.1)
+  goes_further : (run : Board S → Option (Board S)) (b c : Board S) → (c.closed ≡ Some Fault → IsSpent x) → IsExtended run b c → Extends run b c x
+  goes_further run b c spent (Always e) = e x
+  goes_further run b c spent (NoAnswer k o e) = e x (spent k.1).0
+  goes_further run b c spent (NotTaken k o e) = e x (spent k.1).1
 
-  pub reached_extend : (b : Board S) → Reached machine terms many first supply b → b.closed ≢ Some Fault
+  pub reached_extend : (b : Board S) → Reached machine terms many first supply b → (b.closed ≡ Some Fault → IsSpent x)
       → Reached machine terms many first (followed_by supply x) (with_more x b)
-  reached_extend _ Begun running = Begun
-  reached_extend _ (Turned h n b c r inside most is) running =
+  reached_extend _ Begun spent = Begun
+  reached_extend _ (Turned h n b c r inside most is) spent =
       let carried = turn_carried machine terms h n b c is in
-      Turned h n (with_more x b) (with_more x c) (reached_extend b r (λ e. running (carried.shut Fault e).0)) inside most
-      (goes_further (turn machine terms h n) b c running carried.extended)
-  reached_extend _ (Favours f b r) running = Favours f (with_more x b) (reached_extend b r running)
-  reached_extend _ (Shut cause b r) running = Shut cause (with_more x b) (reached_extend b r (λ e. running (ap (λ o. Some (unwrap_or o cause)) e)))
+      Turned h n (with_more x b) (with_more x c) (reached_extend b r (λ e. spent (carried.shut Fault e).0)) inside most
+      (goes_further (turn machine terms h n) b c spent carried.extended)
+  reached_extend _ (Favours f b r) spent = Favours f (with_more x b) (reached_extend b r spent)
+  reached_extend _ (Shut cause b r) spent = Shut cause (with_more x b) (reached_extend b r (λ e. spent (ap (λ o. Some (unwrap_or o cause)) e)))

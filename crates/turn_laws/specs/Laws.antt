@@ -1,4 +1,4 @@
--- What holds of the recorder's turns, for code that takes them.
+-- What holds of the recorder's turns, for code that takes them (docs/recorder.md).
 use Rattle.std.specs.Prelude.{ℕ, ◌≡◌, ◌≢◌, ◌++◌, ◌∷◌, ◌+◌, ◌-◌, ◌%◌, ◌<◌, ◌≤◌, ◌==◌, ◌&&◌, not, min, Bool, true, false, List, [], length, replicate, find}
 use Rattle.std.specs.Prelude.{Option, Some, None, IsSome, slice_get}
 use Rattle.std.specs.Option.{option_and_then}
@@ -32,7 +32,7 @@ use Rattle.turn_model.specs.Turn.{turn}
 use Rattle.turn_model.specs.Lists.{Recorded, leg, whole_leg, listed, closed_after, comes_to, recorded_by_list}
 use Rattle.turn_model.specs.Rounds.{round_from, sweep, round, rounds, last_turns, IsRecordedInRounds}
 use Rattle.turn_model.specs.Laws.{IsPagedBoard, OfHarts, machine_in, first_board}
-use Rattle.turn_laws.specs.Supplies.{followed_by, with_more, WithMore, IsCarried, IsCarriedStep, AreCarried}
+use Rattle.turn_laws.specs.Supplies.{IsSpent, followed_by, with_more, WithMore, IsCarried, IsCarriedStep, AreCarried}
 use Rattle.turn_laws.specs.Reached.{Reached}
 use Rattle.turn_laws.specs.GivenLegs.{EachBelow, sweep_with, last_with}
 use Rattle.turn_laws.specs.Polls.{IsPolledTo}
@@ -125,10 +125,11 @@ RoundsBeginStill = (terms : Terms) (image : Image) (harts : ℕ) (supply : Suppl
 abbrev pub IsReachable : Terms → Image → ℕ → Supply → Board FlatState → Type 0
 IsReachable terms image harts supply b = Reached (machine_in terms) terms harts (flat_at_start image harts) supply b
 
--- As long as the console hasn't failed, it is one with more behind what console and clock had to give.
+-- It is one with more behind what console and clock had to give, which has nothing of the console where that failed.
 abbrev pub ReachedExtend : Type 0
 ReachedExtend = (terms : Terms) (image : Image) (harts : ℕ) (supply x : Supply) (b : Board FlatState)
-    → IsReachable terms image harts supply b → b.closed ≢ Some Fault → IsReachable terms image harts (followed_by supply x) (with_more x b)
+    → IsReachable terms image harts supply b → (b.closed ≡ Some Fault → IsSpent x)
+    → IsReachable terms image harts (followed_by supply x) (with_more x b)
 
 -- Lists of turns and what they are closed with, sweeps, rounds and last turns lead from such boards to such boards.
 abbrev pub ListsLead : Type 0

@@ -5,6 +5,10 @@ use Rattle.rv_words.specs.declared.shared.Cause.TheVariants.{Fault}
 use Rattle.turn_model.specs.Board.{Board, Order, Supply}
 use Rattle.turn_model.specs.Ways.{Way, On, Ends}
 
+-- the console has no answer to give and takes no byte
+abbrev pub IsSpent : Supply → Type 0
+IsSpent o = (o.answers ≡ []) × (o.takes ≡ 0)
+
 -- what console and clock have to give, and this behind it
 abbrev pub followed_by : Supply → Supply → Supply
 followed_by o x = record { answers = o.answers ++ x.answers; takes = o.takes + x.takes; times = o.times ++ x.times }

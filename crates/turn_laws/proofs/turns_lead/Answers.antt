@@ -36,5 +36,5 @@ returns-clause-last c terms image harts supply hs b d from each is =
     last_lead (machine_in terms) terms harts (λ x. IsReachable terms image harts supply x) (kept terms image harts supply) hs b d from each is
 
 pub returns-clause-extend : goal.returns-clause-extend
-returns-clause-extend c terms image harts supply x b from running =
-    reached_extend (machine_in terms) terms harts (flat_at_start image harts) supply x b from running
+returns-clause-extend c terms image harts supply x b from spent =
+    reached_extend (machine_in terms) terms harts (flat_at_start image harts) supply x b from spent
