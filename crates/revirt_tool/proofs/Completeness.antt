@@ -15,7 +15,9 @@ use Rattle.revirt_tool.specs.Serving.{Around, RecordsAs, TaskAs}
 use Rattle.revirt_tool.specs.Tasks.{Wish, Task, Records, Lists, task, task_of}
 use Rattle.revirt_tool.specs.Files.{longest}
 use Rattle.revirt_tool.specs.Listings.{InspectsAs, IsListing, IsLogOf}
-use Rattle.revirt_tool.proofs.Rooms.{not_judged}
+use Rattle.order_rules.specs.Orderly.{IsOrderly, IsLeastBreak}
+use Rattle.order_rules.proofs.Reports.{reports_are_one}
+use Rattle.room_laws.proofs.Judged.{order_sees_no_room}
 use Rattle.log_entry.specs.declared.log.Log.{Log}
 use Rattle.log_entry.specs.Room.{log_without_room}
 use Rattle.log_format.specs.Grammar.{spelling, reading}
@@ -36,6 +38,13 @@ same_ok x y e = ap (ok_or x) e
 
 ok_isnt_err : {X : Type 0} (x : X) (bad : Bad) → ◌≡◌ {A = Result X Bad} (Ok x) (Err bad) → ⊥
 ok_isnt_err x bad e = true≢false (ap is_ok e)
+
+-- of two logs that say the same, but for the room of their waits, one isn't orderly where the other breaks a rule
+not_judged : (one other : Log) (rule hart entry : ℕ) → log_without_room one ≡ log_without_room other → IsOrderly one
+    → IsLeastBreak other rule hart entry → ⊥
+not_judged one other rule hart entry same orderly breaks =
+    reports_are_one.none one rule hart entry orderly (((order_sees_no_room one).breaks rule hart entry).0
+    (subst (λ l. IsLeastBreak l rule hart entry) (sym same) (((order_sees_no_room other).breaks rule hart entry).1 breaks)))
 
 faulted : (cause : Cause) (o p : Sources) → true ≡ is_fault cause → FaultsOf cause o p → Rose o.console.faults p.console.faults
 faulted causes.Fault o p is rose = rose
