@@ -15,3 +15,4 @@ pub mod OutcomeAtEnd
 pub mod StagesGoOn
 pub mod OutcomesTold
 pub mod EndLists
+pub mod LegsAsItems

@@ -63,7 +63,7 @@ ran_counts h s f y true is did = absurd (none-some _ did)
 ran_counts h s f y false is did = ap (λ (z : FlatState). z.counts) (sym (same_Some _ _ did)) ∙ is
 
 -- a Run counts
-run_counts : (u h : ℕ) (s t : Replay FlatState) → h < length s.flat.counts → made (board u) s h Move ≡ Some t
+pub run_counts : (u h : ℕ) (s t : Replay FlatState) → h < length s.flat.counts → made (board u) s h Move ≡ Some t
     → ((board u).count t.flat h ≡ (board u).count s.flat h + 1) × (length t.flat.counts ≡ length s.flat.counts)
 run_counts u h s t l did =
     let m = mapped (λ (f : FlatState). record s { flat = f }) (next (act.Run h) s.flat) t did in
@@ -79,7 +79,8 @@ run_counts u h s t l did =
       ap length counts ∙ length-set s.flat.counts h (slice_index s.flat.counts h + 1),
     )
 
-runs_count : (u h n : ℕ) (s t : Replay FlatState) → h < length s.flat.counts → Runs (board u) h n s t → (board u).count t.flat h ≡ (board u).count s.flat h + n
+pub runs_count : (u h n : ℕ) (s t : Replay FlatState) → h < length s.flat.counts → Runs (board u) h n s t → (board u).count t.flat h
+    ≡ (board u).count s.flat h + n
 runs_count u h zero s t l is = let z = ap (λ (x : Replay FlatState). (board u).count x.flat h) is in omega (arith, z)
 runs_count u h (suc n) s t l is =
     let one = run_counts u h s is.1.0 l is.1.1 in
@@ -97,7 +98,7 @@ one_run u h zero s t l is within ends go =
 one_run u h (suc zero) s t l is within ends go = is.1.1 ∙ ap Some is.1.2
 one_run u h (suc (suc n)) s t l is within ends go = let c = runs_count u h (suc (suc n)) s t l is in absurd (omega (arith, c, within))
 
-free_goes : (u : ℕ) (s : Replay FlatState) (h : ℕ) → IsAhead u h s ahead.Free → verdict_on (board u) s h Move ≡ CanGo
+pub free_goes : (u : ℕ) (s : Replay FlatState) (h : ℕ) → IsAhead u h s ahead.Free → verdict_on (board u) s h Move ≡ CanGo
 free_goes u s h asks = ap₂ (λ (w : Option (ℕ × Mode)) x. judge (board u) ((1, is_some w) ∷ (2, is_some x) ∷ [])) asks.0 asks.1
 
 -- a leg of the run is one by the log's unit

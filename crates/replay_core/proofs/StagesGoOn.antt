@@ -1,7 +1,8 @@
 -- A stage that goes on: the states that it is at, and what is left of its replay.
-use Rattle.std.proofs.Common.{◌≡◌, ◌≢◌, inl, inr, ℕ, suc, ◌||◌, Bool, true, false, true≢false, ◌+◌, ◌-◌, ◌*◌, ◌<◌, ◌≤◌, List, [], ◌∷◌, map, length, Option}
-use Rattle.std.proofs.Common.{Some, slice_get, refl, sym, ap, ap₂}
+use Rattle.std.proofs.Common.{◌≡◌, ◌≢◌, inl, inr, ℕ, suc, ◌||◌, Bool, true, false, true≢false, ◌+◌, ◌-◌, ◌*◌, ◌<◌, ◌≤◌, List, [], ◌∷◌, map, length}
+use Rattle.std.proofs.Common.{Option, Some, slice_get, refl, sym, ap, ap₂}
 use Rattle.std.proofs.Common.{◌∙◌, subst, arith}
+use Rattle.std.specs.Prelude.{IsTrue}
 use Rattle.std.specs.Option.{option_map_or}
 use Rattle.std.proofs.lemmas.Bool.{cases_eq}
 use Rattle.std.proofs.lemmas.Option.{same_Some}
@@ -88,12 +89,12 @@ most_done log = total (map length log.streams) + length log.streams * log.limit
 abbrev pub done_of : Stage → ℕ
 done_of stage = total stage.board.cursor.places + total (map (λ (r : Run). r.count) stage.runs.items)
 
-done_is : (image : Image) (stage : Stage) (s : Replay FlatState) → (at : IsAt image stage s)
+pub done_is : (image : Image) (stage : Stage) (s : Replay FlatState) → (at : IsAt image stage s)
     → done_of stage ≡ done stage.board.log image at.stands.replayable s
 done_is image stage s at =
     ap₂ (λ (c : Cursor) (ns : List ℕ). total c.places + total ns) at.stands.cursor (counts_are image stage s at)
 
-less_left : (t u a b : ℕ) → u ≡ t → a + 1 ≤ b → b ≤ t → u - b < t - a
+pub less_left : (t u a b : ℕ) → u ≡ t → a + 1 ≤ b → b ≤ t → u - b < t - a
 less_left t u a b same more most = omega (arith, same, more, most)
 
 -- an item that was made leaves less
@@ -194,3 +195,10 @@ hart_on old new h one two log_is there =
     let b = two.1.1.runs in
     let l = ap (λ (log : Log). length log.streams) log_is in
     omega (arith, a, b, l, there)
+
+-- whether an item was made, as less that is left
+pub has_gone : (made : Bool) (old new : Stage) (h : ℕ) (answer : Went) → IsSomewhere old → h < length old.runs.items → AnswersAt old h answer
+    → LeadsOn old new h → new.board.log ≡ old.board.log → (IsStill answer → IsSame old new) → (made ≡ false → IsStill answer)
+    → (IsTrue made → IsStill answer → ⊥) → HasGone made old new
+has_gone true old new h answer x there answers leads log_is same off on = has_item old new h answer x there answers leads log_is (on refl)
+has_gone false old new h answer x there answers leads log_is same off on = same (off refl)

@@ -1,5 +1,5 @@
 -- The replay state that a replay's board stands for.
-use Rattle.std.specs.Prelude.{ℕ, ◌≡◌, ◌≢◌, ◌+◌, ◌-◌, ◌*◌, ◌<◌, ◌≤◌, Bool, true, false, IsTrue, map, List, length, slice_get, Option, Some, None}
+use Rattle.std.specs.Prelude.{ℕ, ◌≡◌, ◌≢◌, ◌+◌, ◌-◌, ◌*◌, ◌<◌, ◌≤◌, Bool, true, false, IsTrue, map, List, length, slice_get, slice_index, Option, Some, None}
 use Rattle.log_entry.specs.declared.log.Entry.{Entry}
 use Rattle.log_entry.specs.declared.log.Log.{Log}
 use Rattle.log_entry.specs.Parts.{ordinal_of, unit_of}
@@ -70,6 +70,19 @@ pub record Goes (image : Image) (new : ReplayBoard) (run : Run) (log : Log) (h :
 abbrev pub MakesItem : ReplayBoard → ReplayBoard → Run → Run → ℕ → Went → Type 0
 MakesItem old new before after h answer =
     (image : Image) (s : Replay FlatState) → Stands image old s → Agrees before h s → Goes image new after old.log h s answer
+
+-- moves of the hart lead on from the state: the board stands there too, the hart's run agrees and has counted, and each other is as it was
+pub record RunsOn (image : Image) (b : ReplayBoard) (before after : Run) (h : ℕ) (s : Replay FlatState) : Type 0 where
+  pub at : Replay FlatState
+  pub stands : Stands image b at
+  pub agrees : Agrees after h at
+  pub others : (g : ℕ) (q : Run) → g ≢ h → Agrees q g s → Agrees q g at
+  pub counts : (g : ℕ) → g ≢ h → slice_index at.flat.counts g ≡ slice_index s.flat.counts g
+  pub more : before.count < after.count
+
+-- so they do from each state that the board stands for and the run agrees with
+abbrev pub MakesMoves : ReplayBoard → Run → Run → ℕ → Type 0
+MakesMoves b before after h = (image : Image) (s : Replay FlatState) → Stands image b s → Agrees before h s → RunsOn image b before after h s
 
 -- there nothing is changed
 abbrev pub StaysWhere : Type 0 → ReplayBoard → ReplayBoard → Run → Run → Type 0

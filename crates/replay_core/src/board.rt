@@ -1,6 +1,7 @@
 //! A replay's board, apart from the runs of its harts.
 
-ghost use Rattle.std.specs.Prelude.{◌≡◌, ◌<◌, length, IsTrue, IfOk};
+ghost use Rattle.std.specs.Prelude.{◌≡◌, ◌<◌, length, false, IsTrue, IfOk};
+ghost use Rattle.log_entry.specs.Parts.{count_of};
 ghost use Rattle.log_entry.specs.Range.{in_range};
 ghost use Rattle.order_rules.specs.Cursor.{first_left};
 ghost use Rattle.replay_model.specs.Items.{Move, item_at};
@@ -9,7 +10,7 @@ ghost use Rattle.run_model.specs.declared.asked.Ahead.TheVariants.{AtDevice};
 ghost use Rattle.replay_core.specs.declared.went.Went.TheVariants as wents;
 ghost use Rattle.replay_core.specs.Items.{IsNext, IsStill};
 ghost use Rattle.replay_core.specs.declared.went.Next.TheVariants as nexts;
-ghost use Rattle.replay_core.specs.Standing.{BeginsBoard, IsTied, MakesItem, StaysWhere, Passes, item_of};
+ghost use Rattle.replay_core.specs.Standing.{BeginsBoard, IsTied, MakesItem, MakesMoves, StaysWhere, Passes, item_of};
 
 use crate::cursor::Cursor;
 use crate::room::room_of;
@@ -40,6 +41,18 @@ pub(crate) fn harts_of(log: &Log) -> u8
     ensures some { 0 < result }
 {
     log.streams.items().len() as u8
+}
+
+fn count_of(e: &Entry) -> u64
+    ensures { result ≡ count_of e.now }
+{
+    match e {
+        Entry::Gain { count, .. }
+        | Entry::Yield { count, .. }
+        | Entry::Poll { count, .. }
+        | Entry::Touch { count, .. }
+        | Entry::End { count } => *count,
+    }
 }
 
 impl ReplayBoard {
@@ -250,6 +263,29 @@ impl ReplayBoard {
         let _ = self.backing.replay_touch(run, hart, access, input);
         self.pass(hart);
         Went::Entry
+    }
+
+    /// The moves of the hart whose run this is, as many as it can make up to the count of its first entry left.
+    /// Whether it made any.
+    pub(crate) fn run_on(&self, run: &mut HartRun, hart: u8) -> bool
+        requires { IsTied self.now run.old hart }
+        ensures made { IsTrue result → MakesMoves self.now run.old run.new hart }
+        ensures still { result ≡ false → run.new ≡ run.old }
+    {
+        let Some(entry) = self.cursor.first_left(self.log.log(), usize::from(hart)) else {
+            return false;
+        };
+        let until = count_of(entry);
+        if run.count() >= until {
+            return false;
+        }
+        match run.ahead() {
+            Ahead::Free => {
+                let _ = run.advance(until);
+                true
+            }
+            _ => false,
+        }
     }
 
     /// One item of the hart whose run this is.

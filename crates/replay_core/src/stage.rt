@@ -90,6 +90,30 @@ impl Stage {
         self.board.go(&mut self.runs[usize::from(hart)], hart)
     }
 
+    /// The moves of a hart, as many as it can make up to the count of its first entry left. Whether any was made.
+    fn leg(&mut self, hart: u8) -> bool
+        requires at { IsSomewhere self.old }
+        requires hart { hart < length self.old.runs.items }
+        ensures on { GoesOn self.old self.new }
+        ensures log { self.new.board.log ≡ self.old.board.log }
+        ensures gone { HasGone result self.old self.new }
+    {
+        self.board.run_on(&mut self.runs[usize::from(hart)], hart)
+    }
+
+    /// A leg of a hart, and the item behind it. Whether any was made.
+    fn go_leg(&mut self, hart: u8) -> bool
+        requires at { IsSomewhere self.old }
+        requires hart { hart < length self.old.runs.items }
+        ensures on { GoesOn self.old self.new }
+        ensures log { self.new.board.log ≡ self.old.board.log }
+        ensures gone { HasGone result self.old self.new }
+        ensures stuck { result ≡ false → HasNoItem self.new hart }
+    {
+        let ran = self.leg(hart);
+        either(is_made(self.go(hart)), ran)
+    }
+
     /// A hart goes on as far as it can. Whether it went at all.
     fn go_far(&mut self, hart: u8) -> bool
         requires at { IsSomewhere self.old }
@@ -100,7 +124,7 @@ impl Stage {
         ensures stuck { HasNoItem self.new hart }
     {
         let mut went = false;
-        'items: while is_made(self.go(hart)) {
+        'items: while self.go_leg(hart) {
             went = true;
         }
         went

@@ -1,39 +1,34 @@
-use Rattle.std.proofs.Common.{◌∙◌}
-use Rattle.replay_core.proofs.StagesGoOn.{gone_less, hart_on, has_item, has_no_item, on_item, on_then, somewhere_on}
+use Rattle.std.proofs.Common.{◌∙◌, false, subst}
+use Rattle.replay_core.specs.Standing.{HasGone}
+use Rattle.replay_core.proofs.StagesGoOn.{gone_less, gone_then, hart_on, on_then, somewhere_on}
 use Rattle.replay_core.proofs.stage.Stage.go_far.Goals as goal
 
-pub go-requires-clause-at : goal.go-requires-clause-at
-go-requires-clause-at c = somewhere_on c.args.self.now c.items.self c.items.invariant.on c.requires.at
+pub go_leg-requires-clause-at : goal.go_leg-requires-clause-at
+go_leg-requires-clause-at c = somewhere_on c.args.self.now c.items.self c.items.invariant.on c.requires.at
 
-pub go-requires-clause-hart : goal.go-requires-clause-hart
-go-requires-clause-hart c =
+pub go_leg-requires-clause-hart : goal.go_leg-requires-clause-hart
+go_leg-requires-clause-hart c =
     hart_on c.args.self.now c.items.self c.args.hart c.requires.at (somewhere_on c.args.self.now c.items.self c.items.invariant.on c.requires.at)
     c.items.invariant.log c.requires.hart
 
 pub items-smaller : goal.items-smaller
-items-smaller c =
-    let at = somewhere_on c.args.self.now c.items.self c.items.invariant.on c.requires.at in
-    has_item c.items.self c.go.new.self c.args.hart c.go.result at
-    (hart_on c.args.self.now c.items.self c.args.hart c.requires.at at c.items.invariant.log c.requires.hart)
-    c.go.ensures.answer c.go.ensures.at c.go.ensures.log (c.is_made.ensures.made c.items-test.true)
+items-smaller c = subst (λ went. HasGone went c.items.self c.go_leg.new.self) c.items-test.true c.go_leg.ensures.gone
 
 pub items-preserved : goal.items-preserved
-items-preserved c =
-    let at = somewhere_on c.args.self.now c.items.self c.items.invariant.on c.requires.at in
-    record {
-      on = on_then c.args.self.now c.items.self c.go.new.self c.items.invariant.on (on_item c.items.self c.go.new.self c.args.hart c.go.ensures.at);
-      log = c.go.ensures.log ∙ c.items.invariant.log;
-      gone = gone_less c.items.went c.args.self.now c.items.self c.go.new.self c.items.invariant.gone
-          (has_item c.items.self c.go.new.self c.args.hart c.go.result at
-          (hart_on c.args.self.now c.items.self c.args.hart c.requires.at at c.items.invariant.log c.requires.hart)
-          c.go.ensures.answer c.go.ensures.at c.go.ensures.log (c.is_made.ensures.made c.items-test.true));
-    }
+items-preserved c = record {
+  on = on_then c.args.self.now c.items.self c.go_leg.new.self c.items.invariant.on c.go_leg.ensures.on;
+  log = c.go_leg.ensures.log ∙ c.items.invariant.log;
+  gone = gone_less c.items.went c.args.self.now c.items.self c.go_leg.new.self c.items.invariant.gone
+      (subst (λ went. HasGone went c.items.self c.go_leg.new.self) c.items-test.true c.go_leg.ensures.gone);
+}
 
 pub returns-clause-on : goal.returns-clause-on
-returns-clause-on c =
-    on_then c.args.self.now c.items.self c.go.new.self c.items.invariant.on (on_item c.items.self c.go.new.self c.args.hart c.go.ensures.at)
+returns-clause-on c = on_then c.args.self.now c.items.self c.go_leg.new.self c.items.invariant.on c.go_leg.ensures.on
+
+pub returns-clause-gone : goal.returns-clause-gone
+returns-clause-gone c =
+    gone_then c.items.went false c.args.self.now c.items.self c.go_leg.new.self c.items.invariant.gone
+    (subst (λ went. HasGone went c.items.self c.go_leg.new.self) c.items-test.false c.go_leg.ensures.gone)
 
 pub returns-clause-stuck : goal.returns-clause-stuck
-returns-clause-stuck c =
-    let quiet = c.is_made.ensures.still c.items-test.false in
-    has_no_item c.items.self c.go.new.self c.args.hart c.go.result c.go.ensures.answer quiet (c.go.ensures.still quiet)
+returns-clause-stuck c = c.go_leg.ensures.stuck c.items-test.false

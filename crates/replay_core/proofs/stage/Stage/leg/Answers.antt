@@ -1,0 +1,34 @@
+use Rattle.std.proofs.Common.{◌≡◌, Some, slice_get, slice_set, refl, ap, ◌∙◌, sym}
+use Rattle.std.specs.Prelude.{slice_index_or}
+use Rattle.std.specs.Vec.{with_item}
+use Rattle.std.proofs.lemmas.Option.{slice_get-get_or}
+use Rattle.replay_core.proofs.LegsAsItems.{leg_or_same}
+use Rattle.replay_core.proofs.stage.Stage.leg.Goals as goal
+
+pub run_on-requires : goal.run_on-requires
+run_on-requires c =
+    let x = c.requires.at in
+    let there : slice_get c.args.self.now.runs.items c.args.hart ≡ Some c.index_mut.result.now =
+    slice_get-get_or c.args.self.now.runs.items c.args.hart c.index_mut.result.now c.requires.hart
+    ∙ ap Some (ap (λ i. slice_index_or c.args.self.now.runs.items i c.index_mut.result.now) (sym c.from.ensures) ∙ sym c.index_mut.ensures.value) in
+    (x.0, (x.1.0, x.1.1.stands, x.1.1.agree c.args.hart c.index_mut.result.now there))
+
+pub returns-clause-on : goal.returns-clause-on
+returns-clause-on c =
+    let there : slice_get c.args.self.now.runs.items c.args.hart ≡ Some c.index_mut.result.now =
+    slice_get-get_or c.args.self.now.runs.items c.args.hart c.index_mut.result.now c.requires.hart
+    ∙ ap Some (ap (λ i. slice_index_or c.args.self.now.runs.items i c.index_mut.result.now) (sym c.from.ensures) ∙ sym c.index_mut.ensures.value) in
+    (leg_or_same c.run_on.result c.args.self.now
+    (record { board = c.args.self.now.board; runs = with_item c.args.self.now.runs c.from.result c.run_on.new.run; ends = c.args.self.now.ends })
+    c.args.hart c.index_mut.result.now c.run_on.new.run there c.run_on.ensures.made c.run_on.ensures.still refl
+    (ap (λ i. slice_set c.args.self.now.runs.items i c.run_on.new.run) c.from.ensures) refl c.requires.at).0
+
+pub returns-clause-gone : goal.returns-clause-gone
+returns-clause-gone c =
+    let there : slice_get c.args.self.now.runs.items c.args.hart ≡ Some c.index_mut.result.now =
+    slice_get-get_or c.args.self.now.runs.items c.args.hart c.index_mut.result.now c.requires.hart
+    ∙ ap Some (ap (λ i. slice_index_or c.args.self.now.runs.items i c.index_mut.result.now) (sym c.from.ensures) ∙ sym c.index_mut.ensures.value) in
+    (leg_or_same c.run_on.result c.args.self.now
+    (record { board = c.args.self.now.board; runs = with_item c.args.self.now.runs c.from.result c.run_on.new.run; ends = c.args.self.now.ends })
+    c.args.hart c.index_mut.result.now c.run_on.new.run there c.run_on.ensures.made c.run_on.ensures.still refl
+    (ap (λ i. slice_set c.args.self.now.runs.items i c.run_on.new.run) c.from.ensures) refl c.requires.at).1
