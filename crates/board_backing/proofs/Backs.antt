@@ -1,5 +1,6 @@
 -- A backing still backs the state once a page was gained or yielded.
-use Rattle.std.proofs.Common.{◌≡◌, ◌≢◌, inl, inr, ℕ, ◌<◌, ◌≤◌, Bool, true, false, cond, List, [], length, Option, Some, None, slice_get, slice_set, unwrap_or, refl, sym, ap, ap₂, ◌*◌, ◌/◌, zero, suc, ◌∙◌, subst, arith}
+use Rattle.std.proofs.Common.{◌≡◌, ◌≢◌, inl, inr, ℕ, ◌<◌, ◌≤◌, Bool, true, false, cond, List, [], length, Option, Some, None, slice_get, slice_set}
+use Rattle.std.proofs.Common.{unwrap_or, refl, sym, ap, ap₂, ◌*◌, ◌/◌, zero, suc, ◌∙◌, subst, arith}
 use Rattle.std.proofs.lemmas.Bool.{cases_eq}
 use Rattle.std.proofs.Math.Nat.{mul-div_cancel_left}
 use Rattle.std.proofs.lemmas.List.{length-set}

@@ -10,14 +10,11 @@ use Rattle.flat_machine.specs.State.{FlatState}
 use Rattle.order_rules.specs.Holders.{Holders, held}
 use Rattle.replay_model.specs.State.{Replay}
 use Rattle.rv_words.specs.Limits.{IsUnit, page_bytes}
-use Rattle.rv_words.proofs.Units.{at_units}
 use Rattle.run_model.specs.Legs.{DifferFor}
 use Rattle.board_backing.specs.declared.backing.Backing.{Backing}
 use Rattle.run_model.specs.Run.{Run, run_at_start}
+use Rattle.run_model.proofs.Addresses.{whole_units}
 use Rattle.board_backing.specs.Backing.{Backs, BacksFirst, IsDesk, backing_at_start}
-
-whole_units : (unit pages : ℕ) → IsUnit unit → page_bytes * pages / unit * unit ≡ page_bytes * pages
-whole_units unit pages is = at_units (λ u. page_bytes * pages / u * u ≡ page_bytes * pages) unit is (omega arith) (omega arith) (omega arith)
 
 pub start_backs : (image : Image) (harts : ℕ) → IsWhole image → BacksFirst image harts (backing_at_start image harts)
 start_backs image harts whole s (flat, table) =

@@ -1,5 +1,6 @@
 -- A hart that takes its lines, or moves on a device.
-use Rattle.std.proofs.Common.{◌≡◌, ℕ, ◌≤◌, max, false, cond, List, length, suc, inl, inr, ◌||◌, Option, Some, None, is_some, nat_lt, refl, sym, ap, ap₂, ◌∙◌, subst, arith}
+use Rattle.std.proofs.Common.{◌≡◌, ℕ, ◌≤◌, max, false, cond, List, length, suc, inl, inr, ◌||◌, Option, Some, None, is_some, nat_lt, refl, sym, ap, ap₂, ◌∙◌}
+use Rattle.std.proofs.Common.{subst, arith}
 use Rattle.std.proofs.lemmas.Bool.Decides.{leb_tells}
 use Rattle.std.proofs.lemmas.Option.{none-some, same_Some}
 use Rattle.std.specs.Option.{option_map, option_and_then}
@@ -19,6 +20,7 @@ use Rattle.run_model.specs.Run.{Run, ahead_of}
 use Rattle.run_model.specs.Agreement.{Agrees, IsAhead, with_hart, with_move}
 use Rattle.run_model.specs.declared.asked.Ahead.TheVariants.{AtDevice}
 use Rattle.run_model.proofs.Laws.{ahead_agrees}
+use Rattle.run_model.proofs.Sight.{access_is}
 use Rattle.hart_run.specs.Calls.{LinesAgree, lined}
 use Rattle.board_backing.specs.declared.backing.Backing.{Backing}
 use Rattle.board_backing.specs.Backing.{Backs, PollLeads, TouchLeads, Suits, AnswerAgrees}
@@ -47,9 +49,6 @@ backs_devices b d s t backs memory holders devices =
     subst (λ (m : List ℕ). Backs (record b { devices = d }) (record t { flat = record t.flat { memory = m } })) (sym memory)
     (subst (λ hs. Backs (record b { devices = d }) (record { flat = record t.flat { memory = s.flat.memory }; cursor = t.cursor; holders = hs })) (sym holders)
     (record { unit_is = backs.unit_is; number = backs.number; memory = backs.memory; devices_are = sym devices; bytes = backs.bytes }))
-
-access_is : (r : Run) (h : ℕ) (s : Replay FlatState) → Agrees r h s → hart_access s.flat h ≡ access_of (need_of (next_move r.hart s.flat.memory))
-access_is r h s a = ap (λ o. option_and_then (λ x. next_access x s.flat.memory) o) a.hart
 
 pub touch_leads : (b next : Backing) (r new : Run) (h loaded : ℕ) (access : Access) (input : Input) → b.devices.devices.stop ≡ None
     → ahead_of r ≡ AtDevice access → next.pages ≡ b.pages → accesses.touched b.devices.devices access input ≡ Some (next.devices.devices, loaded)

@@ -109,6 +109,7 @@ impl Backing {
         requires word { IsSome (device_word self.old.devices.devices.harts access.at) }
         requires room { HasRoom self.old.devices access }
         ensures leads { IfOk result (TouchLeads self.old self.new run.old run.new hart) }
+        ensures devices { IfOk result (MadeBy self.old.devices self.new.devices access) }
         ensures count { OnOk result (run.new.count ≡ run.old.count + 1) }
         ensures harts { self.new.devices.devices.harts ≡ self.old.devices.devices.harts }
         ensures pages { self.new.pages ≡ self.old.pages }

@@ -1,5 +1,7 @@
 -- The directory follows a log.
-use Rattle.std.proofs.Common.{◌≡◌, inl, inr, ℕ, zero, suc, ◌+◌, ◌<◌, Bool, true, false, ◌&&◌, ◌==◌, not, List, [], ◌∷◌, ◌++◌, length, replicate, Option, Some, None, slice_get, slice_index, slice_set, nat_le, nat_lt, is_none, unwrap_or, if◌then◌else◌, refl, ap, ◌∙◌, sym, subst, arith, true≢false}
+use Rattle.std.proofs.Common.{◌≡◌, inl, inr, ℕ, zero, suc, ◌+◌, ◌<◌, Bool, true, false, ◌&&◌, ◌==◌, not, List, [], ◌∷◌, ◌++◌, length, replicate, Option}
+use Rattle.std.proofs.Common.{Some, None, slice_get, slice_index, slice_set, nat_le, nat_lt, is_none, unwrap_or, if◌then◌else◌, refl, ap, ◌∙◌, sym, subst}
+use Rattle.std.proofs.Common.{arith, true≢false}
 use Rattle.std.specs.Prelude.{IsTrue}
 use Rattle.std.specs.List.{list_any}
 use Rattle.std.specs.Option.{option_map_or}
@@ -26,7 +28,8 @@ use Rattle.order_rules.proofs.Takings.{took, number_met, met_by, numbers_by, gua
 use Rattle.order_rules.proofs.Crew.{any_below}
 use Rattle.order_rules.proofs.Follow.{still_follow}
 use Rattle.privilege_directory.specs.Directory.{Directory, directory_at_start, clash_of, by_others, yields_of}
-use Rattle.privilege_directory.specs.Laws.{left_by, left_by_all, directory_along, AreTaken, StandsAt, IsGiven, MayCall, IsNext, AlongOrders, GivesEntries, AllowsEntries}
+use Rattle.privilege_directory.specs.Laws.{left_by, left_by_all, directory_along, AreTaken, StandsAt, IsGiven, MayCall, IsNext, AlongOrders, GivesEntries}
+use Rattle.privilege_directory.specs.Laws.{AllowsEntries}
 use Rattle.privilege_directory.proofs.Holds.{others_and_one, others_and_own}
 use Rattle.privilege_directory.proofs.Table.{held_of_nobody}
 use Rattle.privilege_directory.proofs.FirstNumber.{none_from}
@@ -38,7 +41,7 @@ yields_after h (Yield count page seq left) yields = yields ++ record { hart = h;
 yields_after h entry yields = []
 
 -- what a Gain by g waits for after the entry by h
-after_entry : (g h : ℕ) (e : Entry) (waits yields : List WaitFor) → waits ≡ by_others g yields
+pub after_entry : (g h : ℕ) (e : Entry) (waits yields : List WaitFor) → waits ≡ by_others g yields
     → waits_after g waits (Some (h, e)) ≡ by_others g (yields_after h e yields)
 after_entry g h (Gain count page seq mode ws) waits yields same = refl
 after_entry g h (Poll count ord time bits) waits yields same = refl
@@ -209,7 +212,7 @@ goes_on log c m d h e kept t is = by (page_number e) refl
           };
         })
 
-number_at_start : (pages page : ℕ) → slice_index (replicate pages 0) page ≡ 0
+pub number_at_start : (pages page : ℕ) → slice_index (replicate pages 0) page ≡ 0
 number_at_start zero page = refl
 number_at_start (suc n) zero = refl
 number_at_start (suc n) (suc i) = number_at_start n i

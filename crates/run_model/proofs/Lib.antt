@@ -1,7 +1,7 @@
-mod Addresses
+pub mod Addresses
 mod Aheads
 mod DataPlaces
-mod Sight
+pub mod Sight
 mod Moves
 mod AfterMove
 mod Legs

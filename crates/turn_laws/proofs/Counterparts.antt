@@ -7,9 +7,7 @@ use Rattle.std.proofs.lemmas.Bool.Decides.{leb_tells}
 use Rattle.std.proofs.lemmas.Option.{same_Some, get_or_from_slice_get}
 use Rattle.rv_words.specs.declared.shared.Mode.{Mode}
 use Rattle.rv_words.specs.declared.shared.Mode.TheVariants.{Read, Write}
-use Rattle.rv_words.specs.Addresses.{in_memory}
 use Rattle.rv_words.specs.Modes.{conflicts}
-use Rattle.rv_csr.specs.Traps.{pending}
 use Rattle.rv_hart.specs.State.{Hart}
 use Rattle.rv_hart.specs.Effects.{effect_of, fetch_of}
 use Rattle.rv_hart.specs.Moves.{need_of}
@@ -21,6 +19,7 @@ use Rattle.log_entry.specs.Parts.{strength, conflict}
 use Rattle.flat_machine.specs.State.{FlatState}
 use Rattle.flat_machine.specs.Moves.{fetched, fetched_by, word_round}
 use Rattle.replay_model.specs.Board.{board, hart_access}
+use Rattle.run_model.proofs.Sight.{fetch_pc}
 use Rattle.turn_model.specs.Board.{unit_in, Board, Terms}
 use Rattle.shared_types.proofs.Lists.{find_same}
 use Rattle.order_rules.specs.Holders.{held}
@@ -114,14 +113,6 @@ most_conflicts page mode (n ∷ ns) =
     one : (b : Bool) (m : Mode) → (b && conflicts m mode) ≡ conflict (if b then Some m else None) (Some mode)
     one true m = refl
     one false m = refl
-
-fetch_pc_by : (b c : Bool) (p pc : ℕ) → cond b fetch.Interrupt (cond c (fetch.At p) fetch.Fault) ≡ fetch.At pc → p ≡ pc
-fetch_pc_by true c p pc e = let bad : ⊥ = cc in absurd bad
-fetch_pc_by false true p pc e = cc
-fetch_pc_by false false p pc e = let bad : ⊥ = cc in absurd bad
-
-fetch_pc : (x : Hart) (pc : ℕ) → fetch_of x ≡ fetch.At pc → x.pc ≡ pc
-fetch_pc x pc e = fetch_pc_by (is_some (pending x.csrs)) (in_memory x.pages x.pc) x.pc pc e
 
 -- behind a fetch page that is held
 behind : (u : ℕ) (page : ℕ) (lack hold : Bool) (x : Run) (here word : ℕ) → hold ≡ not lack → (lack ≡ false → here ≡ word)

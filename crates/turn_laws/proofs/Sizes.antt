@@ -1,11 +1,8 @@
 -- The size of a board's log.
 use Rattle.std.proofs.Common.{◌≡◌, ℕ, zero, suc, ◌+◌, ◌*◌, ◌<◌, ◌++◌, List, [], ◌∷◌, Some, length, map, replicate, slice_set, refl, sym, ap, arith}
-use Rattle.std.specs.Prelude.{sum_by}
-use Rattle.std.specs.List.{enumerate_from}
-use Rattle.std.proofs.lemmas.List.Sums.{sum_by-cons, sum_by_push}
+use Rattle.std.proofs.lemmas.List.Sums.{sum_by_push}
 use Rattle.log_entry.specs.declared.log.Entry.{Entry}
-use Rattle.log_entry.specs.declared.log.Entry.TheVariants.{End}
-use Rattle.log_entry.specs.Size.{size_of, size_of_stream, frame_size}
+use Rattle.log_entry.specs.Size.{size_of, frame_size}
 use Rattle.turn_model.specs.Board.{unit_in, Board, Supply, Terms, board_at_start, ended_streams, stream}
 use Rattle.replay_model.specs.State.{Replay}
 use Rattle.replay_model.specs.Items.{Makes, made}
@@ -13,31 +10,13 @@ use Rattle.shared_types.proofs.Lists.{mapped}
 use Rattle.crew_recording.specs.Recording.{stream_in}
 use Rattle.turn_model.specs.Recordable.{Recordable}
 use Rattle.turn_model.specs.Ways.{log_size, entered}
-
--- the bytes of streams, each with an End
-abbrev total : List (List Entry) → ℕ
-total [] = 0
-total (s ∷ streams) = 13 + sum_by size_of s + total streams
-
-total_is : (unit k n : ℕ) (count : ℕ → ℕ) (streams : List (List Entry))
-    → sum_by (size_of_stream unit k) (map (λ (s : ℕ × List Entry). s.1 ++ End (count s.0) ∷ []) (enumerate_from n streams)) ≡ total streams
-total_is unit k n count [] = refl
-total_is unit k n count (s ∷ streams) =
-    let c =
-    sum_by-cons (size_of_stream unit k) (s ++ End (count n) ∷ [])
-    (map (λ (s : ℕ × List Entry). s.1 ++ End (count s.0) ∷ []) (enumerate_from (n + 1) streams)) in
-    let r = total_is unit k (n + 1) count streams in
-    let m = sum_by_push size_of s (End (count n)) in omega (arith, c, r, m)
+use Rattle.turn_model.proofs.LogSizes.{total, total_is, total_none}
 
 total_more : (streams : List (List Entry)) (h : ℕ) (e : Entry) → h < length streams
     → total (slice_set streams h (stream_in streams h ++ e ∷ [])) ≡ total streams + size_of e
 total_more [] h e l = absurd (omega (arith, l))
 total_more (s ∷ streams) zero e l = let m = sum_by_push size_of s e in omega (arith, m)
 total_more (s ∷ streams) (suc h) e l = let r = total_more streams h e (omega (arith, l)) in omega (arith, r)
-
-total_none : (n : ℕ) → total (replicate n []) ≡ 13 * n
-total_none zero = refl
-total_none (suc n) = let r = total_none n in omega (arith, r)
 
 module _ {S V : Type 0} (machine : Recordable S V) (terms : Terms) where
   size_is : (b : Board S) → log_size machine terms b ≡ 49 + total b.streams

@@ -29,6 +29,7 @@ use Rattle.std.proofs.lemmas.List.{length-set, length-replicate}
 use Rattle.replay_law.proofs.Cursors.{index_there}
 use Rattle.privilege_directory.specs.Directory.{by_others}
 use Rattle.privilege_directory.proofs.Holds.{others_and_one, others_and_own}
+use Rattle.privilege_directory.proofs.Follow.{number_at_start}
 use Rattle.turn_model.specs.Recordable.{Recordable}
 use Rattle.turn_model.specs.Board.{Board, Supply, Terms, board_at_start, count, log_of, stream}
 use Rattle.turn_model.specs.Ways.{entered}
@@ -124,11 +125,6 @@ waits_then g h (Yield count page seq left) waits yields same = elim (eqb_tells h
       ∙ sym (others_and_one h g count yields (λ e. n (sym e)))
 ]
 
-index_at_start : (pages page : ℕ) → slice_index (replicate pages 0) page ≡ 0
-index_at_start zero page = refl
-index_at_start (suc n) zero = refl
-index_at_start (suc n) (suc i) = index_at_start n i
-
 yields_at_start : (pages page : ℕ) → yields_in (replicate pages []) page ≡ []
 yields_at_start zero page = refl
 yields_at_start (suc n) zero = refl
@@ -201,7 +197,7 @@ module _ {S V : Type 0} (machine : Recordable S V) (terms : Terms) where
     size = length-replicate terms.pages [] ∙ sym (length-replicate terms.pages 0);
     none_yet = λ page k l. numbered_is (board_at_start terms harts first supply) page k ∙ nothing (test_of page k) 0 harts;
     waits =
-        λ page h l. ap (waits_due (log_of machine terms (board_at_start terms harts first supply)) page h) (index_at_start terms.pages page)
+        λ page h l. ap (waits_due (log_of machine terms (board_at_start terms harts first supply)) page h) (number_at_start terms.pages page)
         ∙ sym (ap (by_others h) (yields_at_start terms.pages page));
   } where
     nothing : (test : Entry → Bool) (n k : ℕ) → look test n (replicate k []) ≡ None

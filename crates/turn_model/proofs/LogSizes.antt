@@ -19,11 +19,11 @@ use Rattle.turn_model.proofs.StepInvariants.{Preserves}
 use Rattle.turn_model.proofs.Entries.{Entered, after_entry}
 
 -- the bytes of streams, each with an End
-abbrev total : List (List Entry) → ℕ
+abbrev pub total : List (List Entry) → ℕ
 total [] = 0
 total (s ∷ streams) = 13 + sum_by size_of s + total streams
 
-total_is : (unit k n : ℕ) (count : ℕ → ℕ) (streams : List (List Entry))
+pub total_is : (unit k n : ℕ) (count : ℕ → ℕ) (streams : List (List Entry))
     → sum_by (size_of_stream unit k) (map (λ (s : ℕ × List Entry). s.1 ++ End (count s.0) ∷ []) (enumerate_from n streams)) ≡ total streams
 total_is unit k n count [] = refl
 total_is unit k n count (s ∷ streams) =
@@ -37,7 +37,7 @@ total_more [] h e = omega arith
 total_more (s ∷ streams) zero e = let m = sum_by_push size_of s e in omega (arith, m)
 total_more (s ∷ streams) (suc h) e = let r = total_more streams h e in omega (arith, r)
 
-total_none : (n : ℕ) → total (replicate n []) ≡ 13 * n
+pub total_none : (n : ℕ) → total (replicate n []) ≡ 13 * n
 total_none zero = refl
 total_none (suc n) = let r = total_none n in omega (arith, r)
 

@@ -22,19 +22,19 @@ abbrev EachBelow : ℕ → List ℕ → Type 0
 EachBelow n [] = Unit {0}
 EachBelow n (h ∷ hs) = (h < n) × EachBelow n hs
 
-each_more : (n : ℕ) (xs : List ℕ) (h : ℕ) → EachBelow n xs → h < n → EachBelow n (xs ++ h ∷ [])
+pub each_more : (n : ℕ) (xs : List ℕ) (h : ℕ) → EachBelow n xs → h < n → EachBelow n (xs ++ h ∷ [])
 each_more n [] h all l = (l, tt)
 each_more n (x ∷ xs) h all l = (all.0, each_more n xs h all.1 l)
 
-each_below : (n k : ℕ) → k ≤ n → EachBelow n (below k)
+pub each_below : (n k : ℕ) → k ≤ n → EachBelow n (below k)
 each_below n zero l = tt
 each_below n (suc k) l = each_more n (below k) k (each_below n k (omega (arith, l))) (omega (arith, l))
 
-each_round : (n r : ℕ) (xs : List ℕ) → zero < n → EachBelow n (map (λ i. (r + i) % n) xs)
+pub each_round : (n r : ℕ) (xs : List ℕ) → zero < n → EachBelow n (map (λ i. (r + i) % n) xs)
 each_round n r [] l = tt
 each_round n r (x ∷ xs) l = (mod-lt (r + x) l, each_round n r xs l)
 
-round_below : (n r : ℕ) → EachBelow n (map (λ i. (r + i) % n) (below n))
+pub round_below : (n r : ℕ) → EachBelow n (map (λ i. (r + i) % n) (below n))
 round_below zero r = tt
 round_below (suc n) r = each_round (suc n) r (below (suc n)) (omega arith)
 
