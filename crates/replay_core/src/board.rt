@@ -1,6 +1,6 @@
 //! A replay's board, apart from the runs of its harts.
 
-ghost use Rattle.std.specs.Prelude.{◌≡◌, ◌<◌, length, false, IsTrue, IfOk};
+ghost use Rattle.std.specs.Prelude.{◌≡◌, ◌<◌, length, false, true, IsTrue, IfOk};
 ghost use Rattle.log_entry.specs.Parts.{count_of};
 ghost use Rattle.log_entry.specs.Range.{in_range};
 ghost use Rattle.order_rules.specs.Cursor.{first_left};
@@ -55,6 +55,19 @@ fn count_of(e: &Entry) -> u64
     }
 }
 
+/// What the hart makes once it is at the entry's count and the entry's guard is met.
+fn once(is_there: bool, met: bool, next: Next) -> Next
+    ensures before { is_there ≡ false → result ≡ nexts.Move }
+    ensures held { is_there ≡ true → met ≡ false → result ≡ nexts.Hold }
+    ensures due { is_there ≡ true → met ≡ true → result ≡ next }
+{
+    match (is_there, met) {
+        (true, true) => next,
+        (true, false) => Next::Hold,
+        (false, _) => Next::Move,
+    }
+}
+
 impl ReplayBoard {
     /// The board at the start of the replay of an image, with room for each console byte.
     pub(crate) fn start(alloc: Global, log: Orderly, image: &Image) -> Result<ReplayBoard, NoMemory>
@@ -87,29 +100,15 @@ impl ReplayBoard {
         };
         let met = self.cursor.guard_is_met(entry);
         match entry {
-            Entry::End { count: at } => {
-                if *at == count {
-                    Next::Ended
-                } else {
-                    Next::Move
-                }
-            }
+            Entry::End { count: at } => once(*at == count, true, Next::Ended),
             Entry::Gain {
                 count: at,
                 page,
                 mode,
                 ..
             } => {
-                if *at != count {
-                    Next::Move
-                } else if met {
-                    Next::Gain {
-                        page: *page,
-                        mode: *mode,
-                    }
-                } else {
-                    Next::Hold
-                }
+                let (page, mode) = (*page, *mode);
+                once(*at == count, met, Next::Gain { page, mode })
             }
             Entry::Yield {
                 count: at,
@@ -117,16 +116,8 @@ impl ReplayBoard {
                 left,
                 ..
             } => {
-                if *at != count {
-                    Next::Move
-                } else if met {
-                    Next::Yield {
-                        page: *page,
-                        left: *left,
-                    }
-                } else {
-                    Next::Hold
-                }
+                let (page, left) = (*page, *left);
+                once(*at == count, met, Next::Yield { page, left })
             }
             Entry::Poll {
                 count: at,
@@ -134,30 +125,14 @@ impl ReplayBoard {
                 bits,
                 ..
             } => {
-                if *at != count {
-                    Next::Move
-                } else if met {
-                    Next::Poll {
-                        time: *time,
-                        bits: *bits,
-                    }
-                } else {
-                    Next::Hold
-                }
+                let (time, bits) = (*time, *bits);
+                once(*at == count, met, Next::Poll { time, bits })
             }
             Entry::Touch {
                 count: at,
                 input,
                 ..
-            } => {
-                if *at != count {
-                    Next::Move
-                } else if met {
-                    Next::Touch { input: *input }
-                } else {
-                    Next::Hold
-                }
-            }
+            } => once(*at == count, met, Next::Touch { input: *input }),
         }
     }
 
