@@ -1,5 +1,6 @@
 -- Where words aren't in the grammar, the place is that of the first word that can't stand there.
-use Rattle.std.proofs.Common.{◌≡◌, ℕ, ◌+◌, ◌<◌, ◌≤◌, Bool, true, false, List, [], ◌∷◌, ◌++◌, length, take, Option, Some, None, Result, Ok, Err, IsOk, codes, is_some, refl, sym, ap, ap₂, ◌∙◌, ◌&&◌, subst, inl, inr, arith, if◌then◌else◌, true≢false, append_assoc}
+use Rattle.std.proofs.Common.{◌≡◌, ℕ, ◌+◌, ◌<◌, ◌≤◌, Bool, true, false, List, [], ◌∷◌, ◌++◌, length, take, Option, Some, None, Result, Ok, Err, IsOk, codes}
+use Rattle.std.proofs.Common.{is_some, refl, sym, ap, ap₂, ◌∙◌, ◌&&◌, subst, inl, inr, arith, if◌then◌else◌, true≢false, append_assoc}
 use Rattle.std.specs.Option.{option_map}
 use Rattle.std.specs.Str.{bytes_eq}
 use Rattle.std.proofs.lemmas.List.{length-append}
@@ -17,7 +18,8 @@ use Rattle.command_words.specs.Options.{Next, AnOption, ANumber, AName, behind, 
 use Rattle.command_words.specs.Tables.{record_option, no_record_option, recording, replay_option, no_replay_option, replaying}
 use Rattle.command_words.specs.Grammar.{name, number, no_more, job_from, record_of, replay_of, inspect_of, trace_of, sample_of, moves_of, last_to, job_of}
 use Rattle.command_words.specs.Laws.{Begin, IsFirstBad, PlacesAreFirst}
-use Rattle.command_words.proofs.Readers.{Words, StopsAt, IsLeftToRight, CanRead, stops_here, stops_later, same_place, ok_no_err, nothing_there, head_is, no_more_stops, name_stops, name_can, number_stops, number_can, fresh, fresh_is}
+use Rattle.command_words.proofs.Readers.{Words, StopsAt, IsLeftToRight, CanRead, stops_here, stops_later, same_place, ok_no_err, nothing_there, head_is}
+use Rattle.command_words.proofs.Readers.{no_more_stops, name_stops, name_can, number_stops, number_can, fresh, fresh_is}
 
 -- what may stand next can be filled
 abbrev IsFillable : {G : Type 0} → Next G → Type 0

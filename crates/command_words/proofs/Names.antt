@@ -1,5 +1,6 @@
 -- The files of a job have names that differ: a name is read only where it differs from those before it.
-use Rattle.std.proofs.Common.{◌≡◌, ◌≢◌, ℕ, suc, ◌+◌, Bool, true, false, List, [], ◌∷◌, cond, ◌||◌, Option, Some, None, Result, Ok, Err, option_map, unwrap_or, slice_get, is_some, codes, bytes_eq, IfSome, IfOk, refl, sym, ap, subst, arith}
+use Rattle.std.proofs.Common.{◌≡◌, ◌≢◌, ℕ, suc, ◌+◌, Bool, true, false, List, [], ◌∷◌, cond, ◌||◌, Option, Some, None, Result, Ok, Err, option_map}
+use Rattle.std.proofs.Common.{unwrap_or, slice_get, is_some, codes, bytes_eq, IfSome, IfOk, refl, sym, ap, subst, arith}
 use Rattle.std.specs.List.{list_any}
 use Rattle.std.proofs.lemmas.Bool.{false≢true, and_parts, not-true, both_ways}
 use Rattle.std.proofs.lemmas.Option.{none-some, same_Some}
@@ -213,7 +214,8 @@ module _ (command image log : List ℕ) (more : List (List ℕ)) (named : is_nam
   log_differs : IsOther words (Some 2) 1
   log_differs = not_first log image [] named
 
-  dump_differs : (dump : Option ℕ) → ((place : ℕ) → dump ≡ Some place → is_name names (word_at words place) ≡ true) → IsOther words dump 2 × IsOther words dump 1
+  dump_differs : (dump : Option ℕ) → ((place : ℕ) → dump ≡ Some place → is_name names (word_at words place) ≡ true) → IsOther words dump 2
+      × IsOther words dump 1
   dump_differs None is = (tt, tt)
   dump_differs (Some place) is =
       (not_second (word_at words place) image log (is place refl), not_first (word_at words place) image (log ∷ []) (is place refl))

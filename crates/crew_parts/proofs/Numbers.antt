@@ -66,7 +66,8 @@ all_leave = (
   ),
 )
 
-found_leaves : (n v : ℕ) (s : Csrs) (rows : List Register) → All rows → (unwrap_or (option_map (λ (r : Register). r.write v s) (find (has_number n) rows)) s).hart ≡ s.hart
+found_leaves : (n v : ℕ) (s : Csrs) (rows : List Register) → All rows
+    → (unwrap_or (option_map (λ (r : Register). r.write v s) (find (has_number n) rows)) s).hart ≡ s.hart
 found_leaves n v s [] all = refl
 found_leaves n v s (r ∷ rows) all = by (has_number n r) (found_leaves n v s rows all.1) where
   by : (b : Bool) → (unwrap_or (option_map (λ (r : Register). r.write v s) (find (has_number n) rows)) s).hart ≡ s.hart

@@ -106,4 +106,5 @@ others_stay p q supply left h n g whole from inside most rest is p_counts q_coun
     let counts : slice_index q.counts g ≡ slice_index p.counts g =
     ap (λ ks. slice_index ks g) q_counts ∙ seen.count ∙ sym (ap (λ ks. slice_index ks g) p_counts) in
     part_alike p q (part_of p g) (part_of q g) terms
-    (own_alike (part_of p g) (part_of q g) seen.hart seen.count seen.pages same.same_entries (ap₂ until_by counts order)) refl refl refl refl refl refl refl refl refl refl
+    (own_alike (part_of p g) (part_of q g) seen.hart seen.count seen.pages same.same_entries (ap₂ until_by counts order)) refl refl refl refl refl refl refl
+    refl refl refl

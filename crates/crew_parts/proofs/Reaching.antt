@@ -26,7 +26,8 @@ numbered_first : (image : Image) (harts : ℕ) → AreNumbered (flat_at_start im
 numbered_first image harts h x is =
     let m = map_at (λ id. hart_at_start id harts image.pages image.entry) (range_with_len 0 harts) h x is in
     let l : h < harts = (let w = slice_get_within (range_with_len 0 harts) h m.0 m.1 in let n = length-range_with_len 0 harts in omega (arith, w, n)) in
-    ap (λ (z : Hart). z.csrs.hart) (sym m.2) ∙ sym (get_or_from_slice_get (range_with_len 0 harts) h m.0 0 m.1) ∙ get_or-range_with_len 0 harts h 0 l ∙ zero-add h
+    ap (λ (z : Hart). z.csrs.hart) (sym m.2) ∙ sym (get_or_from_slice_get (range_with_len 0 harts) h m.0 0 m.1) ∙ get_or-range_with_len 0 harts h 0 l
+    ∙ zero-add h
 
 Good : ℕ → ℕ → FlatState → Type 0
 Good harts pages s = IsPagedBoard harts pages s × AreNumbered s
@@ -77,6 +78,7 @@ reached_state p supply b from streams journal counts =
     let x = items_of (terms_of p) p.image p.harts supply refl b from in
     let start = start_with (terms_of p) p.image p.harts refl in
     state_is p x.0 b.at (record { harts_size = start.harts_size; counts_size = start.counts_size })
-    (subst (λ (ss : List (List _)). Records the_board (first_recording p.image.pages p.harts (flat_at_start p.image p.harts)) x.0 (record { at = b.at; streams = ss }))
+    (subst (λ (ss : List (List _)). Records the_board (first_recording p.image.pages p.harts (flat_at_start p.image p.harts)) x.0
+    (record { at = b.at; streams = ss }))
     (sym streams) x.1)
     (x.2 ∙ ap order_of (sym journal)) (λ h. ap (λ ks. slice_index ks h) counts)

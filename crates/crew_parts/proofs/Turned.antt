@@ -1,5 +1,6 @@
 -- A turn of the board, on its plain data.
-use Rattle.std.proofs.Common.{◌≡◌, ◌≢◌, ◌⊎◌, inl, inr, ℕ, zero, suc, ◌+◌, ◌-◌, ◌≤◌, ◌++◌, List, [], ◌∷◌, map, length, Option, Some, None, slice_get, slice_index}
+use Rattle.std.proofs.Common.{◌≡◌, ◌≢◌, ◌⊎◌, inl, inr, ℕ, zero, suc, ◌+◌, ◌-◌, ◌≤◌, ◌++◌, List, [], ◌∷◌, map, length, Option, Some, None, slice_get}
+use Rattle.std.proofs.Common.{slice_index}
 use Rattle.std.proofs.Common.{refl, sym, ap, ap₂, ◌∙◌, subst, arith, append-nil, zero-add}
 use Rattle.std.specs.Prelude.{IsSome}
 use Rattle.std.specs.Option.{option_map, option_map_or}
@@ -41,10 +42,12 @@ leg_has terms h (suc n) zero s t runs l = absurd (omega (arith, l))
 leg_has terms h (suc n) (suc most) s t runs l =
     let m = runs.1.0 in
     let one : goes the_board s h Move (verdict_on the_board s h Move) ≡ Some (m, told_of the_board s h Move m) =
-    ap (goes the_board s h Move) runs.0 ∙ ap (λ (o : Option (Replay FlatState)). option_map (λ (t : Replay FlatState). (t, told_of the_board s h Move t)) o) runs.1.1 in
+    ap (goes the_board s h Move) runs.0 ∙ ap (λ (o : Option (Replay FlatState)). option_map (λ (t : Replay FlatState). (t, told_of the_board s h Move t)) o)
+    runs.1.1 in
     let rest = leg_has terms h n most m t runs.1.2 (omega (arith, l)) in
     let is : leg the_machine terms h (suc most) s ≡ suc (leg the_machine terms h most m) =
-    ap (λ (o : Option (Replay FlatState × Option (List Step))). option_map_or (λ (m : Replay FlatState × Option (List Step)). suc (leg the_machine terms h most m.0)) o 0) one in
+    ap (λ (o : Option (Replay FlatState × Option (List Step))). option_map_or
+    (λ (m : Replay FlatState × Option (List Step)). suc (leg the_machine terms h most m.0)) o 0) one in
     omega (arith, is, rest)
 
 -- so many moves are of the whole leg, where they end no later than the hart was told
@@ -109,7 +112,7 @@ reached_with p h n given c reached is none = by (is_fault p.closed) where
     subst (λ o. Reached the_machine (terms_of p) p.harts (flat_at_start p.image p.harts) (followed_by reached.0 given) (board_of p o))
         (first_spent given ∙ sym (then_spent given))
         (reached_extend the_machine (terms_of p) p.harts (flat_at_start p.image p.harts) reached.0 given (board_of p spent) reached.1
-            (λ fault. absurd (running fault))),
+        (λ fault. absurd (running fault))),
   )
 
 -- what a run has of pages
@@ -127,7 +130,8 @@ held_bytes (Some m) one other same = ap (λ bytes. with_bytes bytes (Some m)) (s
 pages_are : (x : Run) (h : ℕ) (s : Replay FlatState) → Agrees x h s → x.frames.unit ≡ page_bytes → pages_in s h ≡ pages_of x
 unfolding pages_of
 pages_are x h s a unit =
-    map_alike (λ page. with_bytes (page_of page_bytes s.flat.memory page) (held s.holders page h)) (λ page. with_bytes (bytes_of x.frames page) (hold_of x page))
+    map_alike (λ page. with_bytes (page_of page_bytes s.flat.memory page) (held s.holders page h))
+    (λ page. with_bytes (bytes_of x.frames page) (hold_of x page))
     (below (length s.holders)) (λ page. ap (with_bytes (page_of page_bytes s.flat.memory page)) (a.modes page)
     ∙ held_bytes (hold_of x page) (page_of page_bytes s.flat.memory page) (bytes_of x.frames page)
     (λ some. ap (λ u. page_of u s.flat.memory page) (sym unit) ∙ a.bytes page some))

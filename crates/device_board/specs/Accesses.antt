@@ -1,5 +1,6 @@
 -- What a load or a store of each device word does, and which inputs from outside suit it (docs/board.md).
-use Rattle.std.specs.Prelude.{ℕ, ◌≡◌, ◌+◌, ◌%◌, ◌^◌, nat_le, Bool, true, false, if◌then◌else◌, Option, Some, None, [], ◌∷◌, ◌++◌, slice_set, length, IfSome, IsTrue, ◌<◌}
+use Rattle.std.specs.Prelude.{ℕ, ◌≡◌, ◌+◌, ◌%◌, ◌^◌, nat_le, Bool, true, false, if◌then◌else◌, Option, Some, None, [], ◌∷◌, ◌++◌, slice_set, length, IfSome}
+use Rattle.std.specs.Prelude.{IsTrue, ◌<◌}
 use Rattle.std.specs.Option.{option_and_then}
 use Rattle.rv_words.specs.Words.{bit, has_bit, low_half, high_half, with_low_half, with_high_half}
 use Rattle.rv_words.specs.Addresses.{device_word}

@@ -17,7 +17,9 @@ use Rattle.log_entry.specs.declared.log.Entry.TheVariants.{Gain, Yield, Poll, To
 use Rattle.log_entry.specs.declared.log.Log.{Log}
 use Rattle.log_entry.specs.Room.{entry_without_room, stream_without_room, log_without_room}
 use Rattle.log_entry.specs.Range.{is_wait, is_left, is_entry, is_stream, in_range}
-use Rattle.log_format.specs.Grammar.{mode_format, left_format, cause_format, input_format, wait_format, waits_format, gain_format, yield_format, poll_format, touch_format, end_format, entry_format, stream_format, magic, head_format, head_of, log_format, spelling, by_offset, reading}
+use Rattle.log_format.specs.Grammar.{mode_format, left_format, cause_format, input_format, wait_format, waits_format, gain_format, yield_format, poll_format}
+use Rattle.log_format.specs.Grammar.{touch_format, end_format, entry_format, stream_format, magic, head_format, head_of, log_format, spelling, by_offset}
+use Rattle.log_format.specs.Grammar.{reading}
 use Rattle.log_format.specs.Writing.{IsNarrowInput, IsNarrowWait, IsNarrow}
 use Rattle.log_format.proofs.Exact.{whole-again}
 use Rattle.log_format.proofs.Grammar.{log-exact}

@@ -3,8 +3,12 @@ use Rattle.std.proofs.Common.{◌≡◌, ℕ, zero, suc, ◌^◌, Bool, true, re
 use Rattle.std.specs.Int.{w8, w16, w32, w64}
 use Rattle.rv_words.specs.Limits.{most_pages}
 use Rattle.log_entry.specs.declared.log.Entry.{Entry}
-use Rattle.log_format.specs.Grammar.{any, exactly, below, at_most, between, mode_of, mode_number, left_of, left_number, cause_of, cause_number, input_of, kind_number, value_number, greatest_value, u8, u16, u32, u64, mode_format, left_format, cause_format, input_format, wait_format, waits_format, gain_format, yield_format, poll_format, touch_format, end_format, tag_of, fields_of_tag, entry_format, stream_format, magic, head_format, log_format}
-use Rattle.log_format.proofs.Exact.{IsExact, wide8, wide16, wide32, wide64, number-exact, block-exact, bind-exact, as_value-exact, tagged-exact, repeat-exact, counted-exact}
+use Rattle.log_format.specs.Grammar.{any, exactly, below, at_most, between, mode_of, mode_number, left_of, left_number, cause_of, cause_number, input_of}
+use Rattle.log_format.specs.Grammar.{kind_number, value_number, greatest_value, u8, u16, u32, u64, mode_format, left_format, cause_format, input_format}
+use Rattle.log_format.specs.Grammar.{wait_format, waits_format, gain_format, yield_format, poll_format, touch_format, end_format, tag_of, fields_of_tag}
+use Rattle.log_format.specs.Grammar.{entry_format, stream_format, magic, head_format, log_format}
+use Rattle.log_format.proofs.Exact.{IsExact, wide8, wide16, wide32, wide64, number-exact, block-exact, bind-exact, as_value-exact, tagged-exact}
+use Rattle.log_format.proofs.Exact.{repeat-exact, counted-exact}
 
 u8-exact : (rule : ℕ) (ok : ℕ → Bool) → IsExact (u8 rule ok)
 u8-exact rule ok = number-exact w8 (2 ^ 8) rule ok wide8

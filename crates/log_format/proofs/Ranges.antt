@@ -14,7 +14,8 @@ use Rattle.log_entry.specs.declared.log.Entry.TheVariants.{Gain, Yield, Poll, To
 use Rattle.log_entry.specs.declared.log.Log.{Log}
 use Rattle.log_entry.specs.Room.{entry_without_room, stream_without_room, log_without_room}
 use Rattle.log_entry.specs.Range.{is_wait, is_left, is_entry, is_stream, in_range}
-use Rattle.log_format.specs.Grammar.{between, at_most, left_of, left_number, left_format, wait_format, waits_format, gain_format, yield_format, poll_format, entry_format, stream_format, head_format, log_format}
+use Rattle.log_format.specs.Grammar.{between, at_most, left_of, left_number, left_format, wait_format, waits_format, gain_format, yield_format, poll_format}
+use Rattle.log_format.specs.Grammar.{entry_format, stream_format, head_format, log_format}
 use Rattle.log_format.specs.Writing.{IsSpellable, IsSpellableStream}
 
 pub and_left : (x y : Bool) → (x && y) ≡ true → x ≡ true

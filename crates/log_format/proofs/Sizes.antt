@@ -9,7 +9,8 @@ use Rattle.log_entry.specs.declared.log.Entry.TheVariants.{Gain, Yield, Poll, To
 use Rattle.log_entry.specs.declared.log.Log.{Log}
 use Rattle.log_entry.specs.Parts.{unit_of}
 use Rattle.log_entry.specs.Size.{size_of, size_in, size_of_stream, size_of_log}
-use Rattle.log_format.specs.Grammar.{u32, any, mode_number, wait_format, waits_format, gain_format, yield_format, poll_format, touch_format, end_format, input_format, entry_format, stream_format, head_format, cause_format, log_format, head_of, spelling}
+use Rattle.log_format.specs.Grammar.{u32, any, mode_number, wait_format, waits_format, gain_format, yield_format, poll_format, touch_format, end_format}
+use Rattle.log_format.specs.Grammar.{input_format, entry_format, stream_format, head_format, cause_format, log_format, head_of, spelling}
 use Rattle.log_format.specs.Sizes.{HaveTheirSizes}
 
 waits_size : (harts : ℕ) (waits : List WaitFor) → length (flat_map (wait_format harts).spell waits) ≡ 9 * length waits

@@ -8,7 +8,8 @@ use Rattle.log_entry.specs.declared.log.Entry.{Entry}
 use Rattle.log_entry.specs.declared.log.Entry.TheVariants.{Gain, Yield, Poll, Touch, End}
 use Rattle.log_entry.specs.declared.log.Log.{Log}
 use Rattle.log_entry.specs.Room.{entry_without_room, stream_without_room, log_without_room}
-use Rattle.log_format.specs.Grammar.{u32, any, wait_format, waits_format, gain_format, yield_format, poll_format, touch_format, end_format, entry_format, stream_format, head_format, cause_format, log_format, magic, spelling}
+use Rattle.log_format.specs.Grammar.{u32, any, wait_format, waits_format, gain_format, yield_format, poll_format, touch_format, end_format, entry_format}
+use Rattle.log_format.specs.Grammar.{stream_format, head_format, cause_format, log_format, magic, spelling}
 
 entry-bounds : (harts units : ℕ) (entry : Entry) → (entry_format harts units).spell entry ≡ (entry_format 0 0).spell entry
 unfolding entry_format gain_format yield_format poll_format touch_format end_format waits_format wait_format

@@ -1,9 +1,12 @@
 -- Filling rows entry by entry.
-use Rattle.std.proofs.Common.{◌≡◌, ℕ, zero, suc, ◌+◌, ◌<◌, Bool, true, false, List, [], ◌∷◌, map, length, Option, Some, None, refl, sym, ap, ◌∙◌, subst, inl, inr, ◌⊎◌, arith, eq-or-lt_of_le, le_of_suc-le-suc}
-use Rattle.std.specs.Prelude.{◌&&◌, ◌||◌, not, nat_le, nat_lt, slice_get, slice_set, unwrap_or, is_some, option_map, option_and_then, ◌==◌, replicate, slice_index}
+use Rattle.std.proofs.Common.{◌≡◌, ℕ, zero, suc, ◌+◌, ◌<◌, Bool, true, false, List, [], ◌∷◌, map, length, Option, Some, None, refl, sym, ap, ◌∙◌, subst, inl}
+use Rattle.std.proofs.Common.{inr, ◌⊎◌, arith, eq-or-lt_of_le, le_of_suc-le-suc}
+use Rattle.std.specs.Prelude.{◌&&◌, ◌||◌, not, nat_le, nat_lt, slice_get, slice_set, unwrap_or, is_some, option_map, option_and_then, ◌==◌, replicate}
+use Rattle.std.specs.Prelude.{slice_index}
 use Rattle.std.specs.List.{list_any}
 use Rattle.std.proofs.Math.ListN.{length-set, length-map, length-replicate}
-use Rattle.std.proofs.lemmas.Bool.{and_from, and_parts, eqb-true, eq-eqb, false_from_ne_true, cases_lt, cases_eq, ltb-true, lt-ltb, le-ltb, le-leb, lt-leb, not-true, true≢false}
+use Rattle.std.proofs.lemmas.Bool.{and_from, and_parts, eqb-true, eq-eqb, false_from_ne_true, cases_lt, cases_eq, ltb-true, lt-ltb, le-ltb, le-leb, lt-leb}
+use Rattle.std.proofs.lemmas.Bool.{not-true, true≢false}
 use Rattle.std.proofs.lemmas.List.{get_or-set_same, get_or-set_other}
 use Rattle.std.proofs.lemmas.Option.{none-some, same_Some, slice_get_within, slice_get_past}
 use Rattle.log_entry.specs.declared.log.Entry.{Entry}
@@ -16,7 +19,8 @@ use Rattle.log_order.specs.declared.orderly.Leg.{Leg}
 use Rattle.log_order.specs.declared.series.Series.{Series}
 use Rattle.log_order.specs.declared.series.Series.TheVariants.{Pages, Ordinals}
 use Rattle.log_order.specs.Bounds.{IsSmall}
-use Rattle.log_order.specs.Rows.{key_of, has_key, width_of, size_of_row, misplaced, is_misplaced, slot_in, row_of, slot, is_free, with_leg, spot_of, RowsBelow, AreFilled}
+use Rattle.log_order.specs.Rows.{key_of, has_key, width_of, size_of_row, misplaced, is_misplaced, slot_in, row_of, slot, is_free, with_leg, spot_of}
+use Rattle.log_order.specs.Rows.{RowsBelow, AreFilled}
 use Rattle.log_order.proofs.Earlier.{any_earlier, none_earlier}
 
 pub get_set_same : {X : Type 0} (xs : List X) (i : ℕ) (y : X) → i < length xs → slice_get (slice_set xs i y) i ≡ Some y

@@ -1,5 +1,6 @@
 -- The entries of a log by their numbers.
-use Rattle.std.specs.Prelude.{ℕ, ◌≡◌, ◌<◌, ◌==◌, ◌&&◌, ◌||◌, not, nat_lt, nat_le, Bool, true, List, [], length, count_by, slice_get, slice_set, Option, Some, None, is_some, option_map, option_and_then}
+use Rattle.std.specs.Prelude.{ℕ, ◌≡◌, ◌<◌, ◌==◌, ◌&&◌, ◌||◌, not, nat_lt, nat_le, Bool, true, List, [], length, count_by, slice_get, slice_set, Option, Some}
+use Rattle.std.specs.Prelude.{None, is_some, option_map, option_and_then}
 use Rattle.std.specs.List.{list_any, slice_index_or}
 use Rattle.log_entry.specs.declared.log.Entry.{Entry}
 use Rattle.log_entry.specs.declared.log.Log.{Log}

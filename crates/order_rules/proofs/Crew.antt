@@ -1,5 +1,7 @@
 -- In a log that keeps O6 the holders are CREW before each number of a page.
-use Rattle.std.proofs.Common.{◌≡◌, ◌≢◌, ℕ, zero, suc, ◌+◌, ◌<◌, ◌≤◌, Bool, true, false, not, ◌||◌, ◌&&◌, cond, List, [], ◌∷◌, map, length, Option, Some, None, find, slice_get, unwrap_or, nat_le, refl, sym, ap, ◌∙◌, subst, inl, inr, ◌⊎◌, arith, add-zero, zero-add, eq-or-lt_of_le, le_of_suc-le-suc, subst₂, true≢false, ◌==◌, if◌then◌else◌}
+use Rattle.std.proofs.Common.{◌≡◌, ◌≢◌, ℕ, zero, suc, ◌+◌, ◌<◌, ◌≤◌, Bool, true, false, not, ◌||◌, ◌&&◌, cond, List, [], ◌∷◌, map, length, Option, Some}
+use Rattle.std.proofs.Common.{None, find, slice_get, unwrap_or, nat_le, refl, sym, ap, ◌∙◌, subst, inl, inr, ◌⊎◌, arith, add-zero, zero-add, eq-or-lt_of_le}
+use Rattle.std.proofs.Common.{le_of_suc-le-suc, subst₂, true≢false, ◌==◌, if◌then◌else◌}
 use Rattle.std.specs.List.{list_any}
 use Rattle.std.specs.Option.{option_or}
 use Rattle.std.proofs.lemmas.Option.{none-some, same_Some, slice_get_within}

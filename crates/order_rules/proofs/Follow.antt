@@ -1,5 +1,6 @@
 -- The holders of a replay follow the log.
-use Rattle.std.proofs.Common.{◌≡◌, ◌≢◌, ℕ, suc, ◌+◌, ◌<◌, true, false, [], length, Option, Some, None, slice_get, slice_index, slice_set, unwrap_or, sym, ap, ap₂, ◌∙◌, subst, inl, inr, arith, ◌⊎◌, ◌==◌, if◌then◌else◌}
+use Rattle.std.proofs.Common.{◌≡◌, ◌≢◌, ℕ, suc, ◌+◌, ◌<◌, true, false, [], length, Option, Some, None, slice_get, slice_index, slice_set, unwrap_or, sym, ap}
+use Rattle.std.proofs.Common.{ap₂, ◌∙◌, subst, inl, inr, arith, ◌⊎◌, ◌==◌, if◌then◌else◌}
 use Rattle.std.proofs.lemmas.Option.{get_or_from_slice_get, slice_get_within}
 use Rattle.std.proofs.lemmas.List.{get_or-set_other}
 use Rattle.std.proofs.lemmas.Bool.Decides.{eqb_tells}
@@ -64,7 +65,8 @@ still_follow log holders numbers h i page k e kept at is number a b follow q g =
         subst (λ z. held (with_held holders page h (holds_then e)) page z ≡ holds_then e) same (held_here holders page h (holds_then e) a b)
         ∙ sym (then_held ∙ ap (λ c. if c then holds_then e else rules.held log page g k) t)
     on_page (inr (f, n)) =
-        held_beside holders page h g (holds_then e) a (λ z. n (sym z)) ∙ follow page g ∙ ap (rules.held log page g) (get_or_from_slice_get numbers page k 0 number)
+        held_beside holders page h g (holds_then e) a (λ z. n (sym z)) ∙ follow page g
+        ∙ ap (rules.held log page g) (get_or_from_slice_get numbers page k 0 number)
         ∙ sym (then_held ∙ ap (λ c. if c then holds_then e else rules.held log page g k) f)
 
 pub follow_is_crew : FollowIsCrew

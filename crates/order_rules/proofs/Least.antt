@@ -1,5 +1,6 @@
 -- The first of the spots that passes a test is the least.
-use Rattle.std.proofs.Common.{◌≡◌, ℕ, zero, suc, ◌+◌, ◌<◌, Bool, true, false, cond, List, [], ◌∷◌, map, flat_map, length, Option, Some, None, find, ◌⊎◌, eq-or-lt_of_le, le_of_suc-le-suc, zero-add, true≢false, refl, sym, ap, ◌∙◌, subst, inl, inr, arith}
+use Rattle.std.proofs.Common.{◌≡◌, ℕ, zero, suc, ◌+◌, ◌<◌, Bool, true, false, cond, List, [], ◌∷◌, map, flat_map, length, Option, Some, None, find, ◌⊎◌}
+use Rattle.std.proofs.Common.{eq-or-lt_of_le, le_of_suc-le-suc, zero-add, true≢false, refl, sym, ap, ◌∙◌, subst, inl, inr, arith}
 use Rattle.std.specs.Option.{option_or}
 use Rattle.std.specs.List.{enumerate_from}
 use Rattle.std.proofs.lemmas.Option.{none-some, same_Some}

@@ -1,5 +1,7 @@
 -- In a log that keeps O5, an entry of a page is the one that its number names.
-use Rattle.std.proofs.Common.{◌≡◌, ℕ, zero, suc, ◌+◌, ◌<◌, Bool, true, false, ◌||◌, cond, List, [], ◌∷◌, ◌++◌, map, flat_map, length, take, Option, Some, None, find, slice_get, refl, sym, ap, ◌∙◌, subst, arith, add-zero, zero-add, append_assoc, nat_le, count_by, is_some, unwrap_or, ◌==◌, if◌then◌else◌}
+use Rattle.std.proofs.Common.{◌≡◌, ℕ, zero, suc, ◌+◌, ◌<◌, Bool, true, false, ◌||◌, cond, List, [], ◌∷◌, ◌++◌, map, flat_map, length, take, Option, Some}
+use Rattle.std.proofs.Common.{None, find, slice_get, refl, sym, ap, ◌∙◌, subst, arith, add-zero, zero-add, append_assoc, nat_le, count_by, is_some}
+use Rattle.std.proofs.Common.{unwrap_or, ◌==◌, if◌then◌else◌}
 use Rattle.std.proofs.lemmas.Bool.{eq-eqb, or_parts}
 use Rattle.std.specs.List.{list_any, enumerate_from}
 use Rattle.std.specs.Option.{option_or, option_and_then}

@@ -1,5 +1,6 @@
 -- Takings of entries by two harts don't disturb each other, in a log whose numbers and ordinals are right.
-use Rattle.std.proofs.Common.{◌≡◌, ◌≢◌, ℕ, ◌+◌, ◌≤◌, ◌==◌, Bool, true, false, List, [], length, Option, Some, None, find, slice_get, slice_index, slice_set, is_some, count_by, nat_le, ◌||◌, unwrap_or, refl, sym, ap, ◌∙◌, subst, if◌then◌else◌, true≢false, zero-add}
+use Rattle.std.proofs.Common.{◌≡◌, ◌≢◌, ℕ, ◌+◌, ◌≤◌, ◌==◌, Bool, true, false, List, [], length, Option, Some, None, find, slice_get, slice_index, slice_set}
+use Rattle.std.proofs.Common.{is_some, count_by, nat_le, ◌||◌, unwrap_or, refl, sym, ap, ◌∙◌, subst, if◌then◌else◌, true≢false, zero-add}
 use Rattle.std.specs.List.{list_any}
 use Rattle.std.specs.Option.{option_and_then}
 use Rattle.std.proofs.lemmas.Option.{none-some, same_Some, slice_get_past}

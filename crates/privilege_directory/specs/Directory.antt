@@ -1,5 +1,6 @@
 -- Who holds, has yielded and wants the pages of a board (docs/pages.md).
-use Rattle.std.specs.Prelude.{ℕ, ◌≡◌, ◌+◌, ◌-◌, ◌<◌, ◌≤◌, ◌==◌, ◌&&◌, not, nat_lt, is_none, Bool, All, List, [], ◌∷◌, ◌++◌, filter, find, length, replicate, sum_by, slice_get, slice_index, slice_set, Option, Some, None, unwrap_or}
+use Rattle.std.specs.Prelude.{ℕ, ◌≡◌, ◌+◌, ◌-◌, ◌<◌, ◌≤◌, ◌==◌, ◌&&◌, not, nat_lt, is_none, Bool, All, List, [], ◌∷◌, ◌++◌, filter, find, length, replicate}
+use Rattle.std.specs.Prelude.{sum_by, slice_get, slice_index, slice_set, Option, Some, None, unwrap_or}
 use Rattle.std.specs.List.{range_with_len}
 use Rattle.rv_words.specs.declared.shared.Mode.{Mode}
 use Rattle.rv_words.specs.declared.shared.TheConstants.{MAX_HARTS}

@@ -1,5 +1,6 @@
 -- Each step of the recorder is a recorded item.
-use Rattle.std.proofs.Common.{◌≡◌, ℕ, zero, suc, ◌+◌, ◌%◌, ◌<◌, ◌≤◌, ◌==◌, Bool, false, List, [], ◌∷◌, length, Option, Some, None, find, slice_index, slice_set, is_some, nat_lt, refl, sym, ap, ap₂, ◌∙◌, arith, if◌then◌else◌, ◌||◌, not}
+use Rattle.std.proofs.Common.{◌≡◌, ℕ, zero, suc, ◌+◌, ◌%◌, ◌<◌, ◌≤◌, ◌==◌, Bool, false, List, [], ◌∷◌, length, Option, Some, None, find, slice_index}
+use Rattle.std.proofs.Common.{slice_set, is_some, nat_lt, refl, sym, ap, ap₂, ◌∙◌, arith, if◌then◌else◌, ◌||◌, not}
 use Rattle.std.specs.Option.{option_map, option_and_then}
 use Rattle.std.proofs.lemmas.Bool.{eq-eqb}
 use Rattle.std.proofs.lemmas.List.{length_push}
@@ -70,7 +71,8 @@ gain_recorded limit r page mode waits running less polled wants inside numbered 
   running = ap is_some running;
   allowed = (refl, none, same_want r ∙ wants, (let l = holders_size r.run.held in omega (arith, l, inside)), less, polled);
   goes = ap (λ b. if b then CanGo else Holds)
-      (ap (is_number (slice_index r.numbers page)) (slice_get-get_or r.numbers page 0 numbered) ∙ eq-eqb (slice_index r.numbers page) (slice_index r.numbers page) refl);
+      (ap (is_number (slice_index r.numbers page)) (slice_get-get_or r.numbers page 0 numbered)
+      ∙ eq-eqb (slice_index r.numbers page) (slice_index r.numbers page) refl);
   made = ap₂ (λ hs n. Some
       (record {
         flat = (recording_of r).at.flat;

@@ -1,5 +1,6 @@
 -- A stream whose ordinals are 0, 1, 2 and so on is in their order.
-use Rattle.std.proofs.Common.{◌≡◌, ℕ, zero, suc, ◌+◌, ◌<◌, ◌==◌, Bool, false, List, [], ◌∷◌, ◌++◌, length, Option, Some, None, is_some, find, count_by, refl, sym, ap, ap₂, ◌∙◌, arith, cond, ⊎_elim}
+use Rattle.std.proofs.Common.{◌≡◌, ℕ, zero, suc, ◌+◌, ◌<◌, ◌==◌, Bool, false, List, [], ◌∷◌, ◌++◌, length, Option, Some, None, is_some, find, count_by, refl}
+use Rattle.std.proofs.Common.{sym, ap, ap₂, ◌∙◌, arith, cond, ⊎_elim}
 use Rattle.std.specs.List.{filter_map, range_with_len, flat_map, cons_option}
 use Rattle.std.proofs.lemmas.Bool.{eq-eqb}
 use Rattle.std.proofs.lemmas.Bool.Decides.{eqb_tells}

@@ -1,5 +1,6 @@
 -- One hart on its own, between what a log keeps (docs/recorder.md).
-use Rattle.std.specs.Prelude.{ℕ, zero, suc, ◌≡◌, ◌+◌, ◌-◌, ◌*◌, ◌<◌, nat_lt, Bool, List, [], ◌∷◌, length, find, slice_get, Option, Some, None, IsSome, unwrap_or}
+use Rattle.std.specs.Prelude.{ℕ, zero, suc, ◌≡◌, ◌+◌, ◌-◌, ◌*◌, ◌<◌, nat_lt, Bool, List, [], ◌∷◌, length, find, slice_get, Option, Some, None, IsSome}
+use Rattle.std.specs.Prelude.{unwrap_or}
 use Rattle.rv_words.specs.Limits.{page_bytes}
 use Rattle.rv_words.specs.Addresses.{device_word}
 use Rattle.rv_words.specs.declared.shared.Access.{Access}

@@ -1,5 +1,6 @@
 -- The recorder of one hart, and what its steps leave (docs/recorder.md).
-use Rattle.std.specs.Prelude.{ℕ, ◌≡◌, ◌+◌, ◌%◌, ◌<◌, ◌≤◌, sum_by, true, List, [], ◌∷◌, ◌++◌, map, length, replicate, slice_get, slice_index, slice_set, Option, Some, None}
+use Rattle.std.specs.Prelude.{ℕ, ◌≡◌, ◌+◌, ◌%◌, ◌<◌, ◌≤◌, sum_by, true, List, [], ◌∷◌, ◌++◌, map, length, replicate, slice_get, slice_index, slice_set}
+use Rattle.std.specs.Prelude.{Option, Some, None}
 use Rattle.std.specs.List.{list_all, filter_map}
 use Rattle.rv_words.specs.declared.shared.Mode.{Mode}
 use Rattle.rv_words.specs.declared.shared.Mode.TheVariants.{Read}

@@ -1,5 +1,6 @@
 -- A turn of one hart, and why a run ends (docs/recorder.md).
-use Rattle.std.specs.Prelude.{ℕ, ◌≡◌, ◌+◌, ◌%◌, ◌<◌, ◌≤◌, ◌==◌, ◌&&◌, not, Bool, true, false, ◌++◌, ◌∷◌, [], Option, Some, None, is_some, if◌then◌else◌, Result, Ok, Err}
+use Rattle.std.specs.Prelude.{ℕ, ◌≡◌, ◌+◌, ◌%◌, ◌<◌, ◌≤◌, ◌==◌, ◌&&◌, not, Bool, true, false, ◌++◌, ◌∷◌, [], Option, Some, None, is_some, if◌then◌else◌}
+use Rattle.std.specs.Prelude.{Result, Ok, Err}
 use Rattle.rv_words.specs.Limits.{poll_distance}
 use Rattle.rv_words.specs.Addresses.{device_word}
 use Rattle.rv_words.specs.declared.shared.Access.{Access}

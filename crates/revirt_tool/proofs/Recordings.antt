@@ -1,5 +1,6 @@
 -- A recording that was kept keeps what the program promises.
-use Rattle.std.proofs.Common.{◌≡◌, ℕ, ◌==◌, ◌&&◌, not, Bool, true, false, List, ◌++◌, length, replicate, None, IsTrue, sym, ap, ap₂, ◌∙◌, subst, Option, Some, IfSome, Ok, Err, inl, inr, ⊎_elim, refl, arith}
+use Rattle.std.proofs.Common.{◌≡◌, ℕ, ◌==◌, ◌&&◌, not, Bool, true, false, List, ◌++◌, length, replicate, None, IsTrue, sym, ap, ap₂, ◌∙◌, subst, Option}
+use Rattle.std.proofs.Common.{Some, IfSome, Ok, Err, inl, inr, ⊎_elim, refl, arith}
 use Rattle.std.proofs.lemmas.Bool.{eq-eqb, ne_eqb}
 use Rattle.rv_words.specs.Limits.{page_bytes}
 use Rattle.rv_words.specs.declared.shared.Cause.{Cause}

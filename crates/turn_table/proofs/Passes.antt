@@ -1,7 +1,8 @@
 -- The table as it is opened, and passes that are cut off and put together.
 use Rattle.std.specs.Prelude.{slice_get, slice_index_or, Contains, All}
 use Rattle.std.specs.List.{enumerate_from}
-use Rattle.std.proofs.Common.{◌≡◌, ◌≢◌, ℕ, zero, suc, ◌+◌, ◌-◌, ◌<◌, ◌≤◌, List, [], ◌∷◌, ◌++◌, map, take, drop, length, length-append, append_assoc, false, Option, Some, refl, sym, ap, ◌∙◌, subst, arith, eq-eqb, ne_eqb, set}
+use Rattle.std.proofs.Common.{◌≡◌, ◌≢◌, ℕ, zero, suc, ◌+◌, ◌-◌, ◌<◌, ◌≤◌, List, [], ◌∷◌, ◌++◌, map, take, drop, length, length-append, append_assoc, false}
+use Rattle.std.proofs.Common.{Option, Some, refl, sym, ap, ◌∙◌, subst, arith, eq-eqb, ne_eqb, set}
 use mathlib.Core.Option.{some, some-injective, some-ne-none}
 use native.Mathlib.Decide.{ℕ_discrete}
 use lib.ListN.{get_elem?}
