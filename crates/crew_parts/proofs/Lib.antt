@@ -3,5 +3,7 @@ mod States
 mod Reaching
 mod Setting
 mod Turned
+mod Frames
 mod OtherParts
+mod Advancing
 pub mod Laws

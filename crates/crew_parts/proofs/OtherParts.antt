@@ -1,5 +1,5 @@
 -- A turn of one hart leaves the parts of the others.
-use Rattle.std.proofs.Common.{◌≡◌, ◌≢◌, ℕ, ◌<◌, ◌≤◌, List, Option, Some, slice_index, refl, sym, ap, ap₂, ◌∙◌}
+use Rattle.std.proofs.Common.{◌≡◌, ◌≢◌, ℕ, ◌<◌, ◌≤◌, List, Option, Some, slice_index, refl, sym, ap, ap₂, ◌∙◌, ◌*◌, ◌/◌, length}
 use Rattle.rv_words.specs.declared.shared.Mode.{Mode}
 use Rattle.rv_hart.specs.State.{Hart}
 use Rattle.elf_image.specs.Image.{IsWhole}
@@ -10,6 +10,9 @@ use Rattle.turn_model.specs.Lists.{whole_leg}
 use Rattle.turn_model.specs.Turn.{turn}
 use Rattle.turn_laws.specs.Reached.{Reached}
 use Rattle.turn_laws.proofs.Legs.{legs_stay, reached_are_crew, runs_stay}
+use Rattle.run_model.specs.Run.{Run}
+use Rattle.run_model.specs.Agreement.{Agrees}
+use Rattle.rv_words.specs.Limits.{page_bytes}
 use Rattle.crew_parts.specs.Boards.{Plain, World, the_machine, board_of, state_of, terms_of, told_to}
 use Rattle.crew_parts.specs.Parts.{Part, part_of, until_by}
 use Rattle.crew_parts.specs.Turns.{SameTerms}
@@ -108,3 +111,12 @@ others_stay p q supply left h n g whole from inside most rest is p_counts q_coun
     part_alike p q (part_of p g) (part_of q g) terms
     (own_alike (part_of p g) (part_of q g) seen.hart seen.count seen.pages same.same_entries (ap₂ until_by counts order)) refl refl refl refl refl refl refl
     refl refl refl
+
+-- a run that is another hart's part stays it
+pub runs_go_on : (p q : Plain) (supply left : Supply) (h n g : ℕ) (x : Run) → IsWhole p.image
+    → Reached the_machine (terms_of p) p.harts (flat_at_start p.image p.harts) supply (board_of p left)
+    → h < p.harts → n ≤ whole_leg the_machine (terms_of p) h (board_of p left) → (rest : Supply)
+    → turn the_machine (terms_of p) h n (board_of p left) ≡ Some (board_of q rest) → g ≢ h → x.frames.unit ≡ page_bytes → Agrees x g (state_of p)
+    → Agrees x g (state_of q)
+runs_go_on p q supply left h n g x whole from inside most rest is other unit agrees =
+    (runs_stay (terms_of p) p.image p.harts supply whole refl h n g (board_of p left) (board_of q rest) x from inside most is other (unit, agrees)).1

@@ -8,7 +8,7 @@ use Rattle.rv_words.specs.declared.shared.Cause.{Cause}
 use Rattle.rv_words.specs.declared.shared.Cause.TheVariants.{Limit, Cut}
 use Rattle.rv_words.specs.declared.shared.Mode.{Mode}
 use Rattle.rv_hart.specs.State.{Hart}
-use Rattle.elf_image.specs.Image.{Image, start_digest}
+use Rattle.elf_image.specs.Image.{Image, IsWhole, start_digest}
 use Rattle.outside.specs.Seen.{SeenConsole, SeenClock}
 use Rattle.log_entry.specs.declared.log.Entry.{Entry}
 use Rattle.log_entry.specs.declared.log.Log.{Log}
@@ -114,6 +114,7 @@ AreNumbered s = (h : ℕ) (x : Hart) → slice_get s.harts h ≡ Some x → x.cs
 
 -- what holds of every board
 pub record IsBoardOf (p : Plain) : Type 0 where
+  pub whole : IsWhole p.image
   pub some : 1 ≤ p.harts
   pub few : p.harts ≤ 8
   pub favours : p.favoured < p.harts

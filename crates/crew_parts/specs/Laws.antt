@@ -1,17 +1,20 @@
 -- What holds of boards as plain data, and of their parts.
 use Rattle.std.specs.Prelude.{ℕ, ◌≡◌, ◌≢◌, ◌+◌, ◌<◌, ◌≤◌, Bool, slice_index, Option, Some, length, unwrap_or}
 use Rattle.rv_words.specs.declared.shared.Cause.{Cause}
+use Rattle.rv_words.specs.Limits.{page_bytes}
 use Rattle.elf_image.specs.Image.{Image, IsWhole}
 use Rattle.flat_machine.specs.State.{FlatState, flat_at_start}
 use Rattle.replay_model.specs.State.{IsCrewState}
 use Rattle.run_model.specs.Run.{Run}
+use Rattle.run_model.specs.Legs.{KeepsPages, MakesLeg}
+use Rattle.run_model.specs.declared.asked.Pause.{Pause}
 use Rattle.turn_model.specs.Board.{Board, Supply, board_at_start}
 use Rattle.turn_model.specs.Lists.{whole_leg}
 use Rattle.turn_model.specs.Turn.{turn}
 use Rattle.turn_laws.specs.Reached.{Reached}
 use Rattle.turn_laws.specs.Supplies.{followed_by}
 use Rattle.crew_parts.specs.Boards.{Plain, World, IsReached, AreNumbered, the_board, the_machine, board_of, plain_at_start, spent, state_of, terms_of}
-use Rattle.crew_parts.specs.Parts.{IsPartAdvanced, KeepsParts, part_of}
+use Rattle.crew_parts.specs.Parts.{IsPart, IsPartAdvanced, KeepsParts, number_of, part_of, until_of}
 use Rattle.crew_parts.specs.Turns.{SameTerms, GivesNoMore}
 
 -- a board that turns led to, from the image's start under these terms
@@ -62,6 +65,23 @@ pub record IsTurnOf (p : Plain) (h n : ℕ) (r : Run) : Type 0 where
   pub hart : h < p.harts
   pub part : IsPartAdvanced p h n r
 
+-- A part's run is the part, advanced by no moves; and by those of a leg that ends no later than the part may move.
+abbrev pub PartsUnmoved : Type 0
+PartsUnmoved = (p : Plain) (h : ℕ) (r : Run) → IsPart p h r → r.count ≤ until_of p h → IsPartAdvanced p h 0 r
+
+abbrev pub LegsAdvance : Type 0
+LegsAdvance = (p : Plain) (h until : ℕ) (r after : Run) (pause : Pause) → IsWhole p.image → IsReached p → h < p.harts → IsPart p h r
+    → KeepsPages r after → (leg : MakesLeg r.frames.unit after pause h until (state_of p)) → until ≤ until_of p h
+    → IsPartAdvanced p h leg.leg.moves after
+
+-- its frames are of the board's unit
+abbrev pub PartsHaveUnit : Type 0
+PartsHaveUnit = (p : Plain) (h : ℕ) (r : Run) → IsWhole p.image → IsReached p → h < p.harts → IsPart p h r → r.frames.unit ≡ page_bytes
+
+-- and it has its hart's number
+abbrev pub PartsAreNumbered : Type 0
+PartsAreNumbered = (p : Plain) (h n : ℕ) (r : Run) → IsWhole p.image → IsReached p → IsPartAdvanced p h n r → number_of r ≡ h
+
 -- The run's count tells the moves, and the hart's leg has them.
 abbrev pub MovesAreTold : Type 0
 MovesAreTold = (p : Plain) (h n : ℕ) (r : Run) → IsTurnOf p h n r
@@ -77,6 +97,11 @@ TurnsReach = (p : Plain) (h n : ℕ) (r : Run) (given : Supply) (c : Board FlatS
 abbrev pub PartsStay : Type 0
 PartsStay = (p q : Plain) (h n g : ℕ) (r : Run) (given : Supply) → IsTurnOf p h n r → TurnsTo p q h n given
     → q.counts ≡ (state_of q).flat.counts → SameTerms p q → g < p.harts → g ≢ h → part_of q g ≡ part_of p g
+
+-- A run that is another hart's part stays it.
+abbrev pub RunsGoOn : Type 0
+RunsGoOn = (p q : Plain) (h n g : ℕ) (r x : Run) (given : Supply) → IsTurnOf p h n r → TurnsTo p q h n given → g < p.harts → g ≢ h
+    → IsPart p g x → IsPart q g x
 
 -- No part speaks of the favoured hart, of the cause or of the room.
 abbrev pub NothingIsChanged : Type 0

@@ -49,7 +49,8 @@ pub record SameTerms (old new : Plain) : Type 0 where
   pub first : new.first ≡ old.first
 
 -- A turn of hart h was had: with the moves that its run made since its last turn it is the model's, whatever console and clock give
--- later; the run is again the hart's part, and the parts of the other harts and the terms are as they were.
+-- later; the run is again the hart's part, the parts of the other harts and the terms are as they were, and a run that
+-- was another hart's part still is.
 pub record HasTurn (old new : Plain) (h : ℕ) (before after : Run) (order : Order) : Type 0 where
   pub moves : ℕ
   pub moved : before.count ≡ slice_index old.counts h + moves
@@ -61,6 +62,7 @@ pub record HasTurn (old new : Plain) (h : ℕ) (before after : Run) (order : Ord
   pub told : told_to new h ≡ Some order
   pub part : IsPart new h after
   pub others : (g : ℕ) → g < old.harts → g ≢ h → part_of new g ≡ part_of old g
+  pub runs : (g : ℕ) (x : Run) → g < old.harts → g ≢ h → IsPart old g x → IsPart new g x
   pub terms : SameTerms old new
   pub abandoned : new.abandoned ≡ old.abandoned
   pub used : new.prepared ≡ false

@@ -3,7 +3,8 @@
 #![tactic(auto)]
 
 ghost use Rattle.crew_parts.specs.Laws.{StatesAre, FirstBoards, BoardsAreSound, NothingIsChanged, LeftIsFree};
-ghost use Rattle.crew_parts.specs.Laws.{TurnsReach, MovesAreTold, PartsStay, BoardsSet};
+ghost use Rattle.crew_parts.specs.Laws.{TurnsReach, MovesAreTold, PartsStay, RunsGoOn, BoardsSet};
+ghost use Rattle.crew_parts.specs.Laws.{PartsUnmoved, LegsAdvance, PartsHaveUnit, PartsAreNumbered};
 
 /// The state that plain data stand for, which nothing stores, is the one to which the turns led. Before any turn it is
 /// the image's start.
@@ -26,9 +27,18 @@ pub fn turns_are_known()
     ensures moves { MovesAreTold }
 {}
 
-/// A turn of one hart leaves the parts of all others, and what only names the favoured hart or closes the board leaves
+/// A turn of one hart leaves the parts of all others, and the runs that are these parts; what only names the favoured hart or closes the board leaves
 /// every part.
 pub fn parts_stay()
     ensures others { PartsStay }
+    ensures runs { RunsGoOn }
     ensures all { NothingIsChanged }
+{}
+
+/// A run that is a hart's part has pages of the board's unit and the hart's number, and advances the part by its legs.
+pub fn runs_advance()
+    ensures unit { PartsHaveUnit }
+    ensures numbers { PartsAreNumbered }
+    ensures unmoved { PartsUnmoved }
+    ensures legs { LegsAdvance }
 {}

@@ -6,3 +6,6 @@ returns-clause-others c = laws.parts_stay
 
 pub returns-clause-all : goal.returns-clause-all
 returns-clause-all c = laws.nothing_is_changed
+
+pub returns-clause-runs : goal.returns-clause-runs
+returns-clause-runs c = laws.runs_stay_parts
