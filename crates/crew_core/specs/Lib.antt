@@ -1,0 +1,9 @@
+pub mod Lanes
+pub mod Seats
+pub mod Orders
+pub mod Standing
+pub mod Does
+pub mod Calls
+pub mod Turns
+pub mod Kept
+pub mod Hands

@@ -1,0 +1,20 @@
+//! The recorder's board: turns of harts whose runs are not in it (docs/recorder.md).
+#![tactic(auto)]
+
+mod accesses;
+mod board;
+mod crew;
+mod gains;
+mod lane;
+mod order;
+mod room;
+mod row_list;
+mod rules;
+mod seat;
+#[cfg(test)]
+mod tests;
+mod turned;
+mod yields;
+
+pub use board::{Board, OutOfMemory};
+pub use order::Order;
