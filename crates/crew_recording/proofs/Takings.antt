@@ -7,6 +7,7 @@ use Rattle.std.proofs.lemmas.List.{length_push, get_or-set_other, length-set}
 use Rattle.std.proofs.lemmas.Option.{get_or_from_slice_get, slice_get_past}
 use Rattle.shared_types.proofs.Lists.{at_end, mapped, set_here}
 use Rattle.orders_law.specs.Orders.{Leads}
+use Rattle.orders_law.proofs.Leads.{leads_on}
 use Rattle.rv_words.specs.declared.shared.Cause.{Cause}
 use Rattle.log_entry.specs.declared.log.Entry.TheVariants as entries
 use Rattle.log_entry.specs.declared.log.Log.{Log}
@@ -23,11 +24,6 @@ use Rattle.crew_recording.specs.Allowed.{IsTimed, AreAllowed}
 use Rattle.crew_recording.proofs.OrderedRecordings.{IsOrdered, made_entry, ordered_item}
 use Rattle.crew_recording.proofs.Rules.{log, many_streams, stream_is, keeps_o5, keeps_o8}
 use Rattle.crew_recording.proofs.Behind.{made_at}
-
-pub leads_on : {S E : Type 0} (step : ℕ → S → Option (S × E)) (r m s : S) (xs ys : List (ℕ × E)) → Leads step r xs m → Leads step m ys s
-    → Leads step r (xs ++ ys) s
-leads_on step r m s [] ys a b = subst (λ z. Leads step z ys s) (sym a) b
-leads_on step r m s (x ∷ xs) ys a b = (a.0, a.1, leads_on step a.0 m s xs ys a.2 b)
 
 none_found : (test : ℕ → Bool) (xs : List ℕ) → ((h : ℕ) → test h ≡ false) → find test xs ≡ None
 none_found test [] each = refl

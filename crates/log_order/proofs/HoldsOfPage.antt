@@ -21,13 +21,13 @@ use Rattle.log_entry.specs.declared.log.Entry.TheVariants.{Gain, Yield, Poll, To
 use Rattle.log_entry.specs.declared.log.Log.{Log}
 use Rattle.log_entry.specs.Parts.{is_some_and, page_number, holds_then, strength, conflict}
 use Rattle.order_rules.specs.Places.{entry_at, stream, is_number, number_on, numbered}
-use Rattle.order_rules.specs.Rules.{held, held_after, waits_due, waits_after, same_wait, breaks_o6, breaks_o7}
+use Rattle.order_rules.specs.Rules.{held, held_after, waits_due, waits_after, same_wait, breaks_o6, breaks_o7, yields_after}
 use Rattle.order_rules.specs.Orderly.{Spot, Keeps, o5, o6, o7}
 use Rattle.order_rules.proofs.Numbers.{numbers_name, in_stream}
 use Rattle.log_order.specs.declared.orderly.Leg.{Leg}
 use Rattle.log_order.specs.declared.series.Series.TheVariants.{Pages}
 use Rattle.log_order.specs.Rows.{slot, AreFilled}
-use Rattle.log_order.specs.Holding.{hold_of, holds_wrongly, waits_of, waits_wrongly, yields_after, AreHeld, AreDue, YieldsAreFew}
+use Rattle.log_order.specs.Holding.{hold_of, holds_wrongly, waits_of, waits_wrongly, AreHeld, AreDue, YieldsAreFew}
 
 -- where no entry passes, none is found
 module _ (f : Entry → Bool) where
@@ -102,7 +102,7 @@ no_hold (suc size) (suc h) = no_hold size h
 pub held_at_first : (log : Log) (page : ℕ) → AreHeld log page 0 (replicate (length log.streams) None)
 held_at_first log page = record { size = length-replicate (length log.streams) None; each = λ h l. no_hold (length log.streams) h }
 
-waits_then : (yields : List WaitFor) (g h : ℕ) (e : Entry) → waits_of (yields_after yields g e) h ≡ waits_after h (waits_of yields h) (Some (g, e))
+waits_then : (yields : List WaitFor) (g h : ℕ) (e : Entry) → waits_of (yields_after g e yields) h ≡ waits_after h (waits_of yields h) (Some (g, e))
 waits_then yields g h (Gain count page seq mode waits) = refl
 waits_then yields g h (Poll count ord time bits) = refl
 waits_then yields g h (Touch count ord input) = refl
@@ -147,7 +147,7 @@ held_next log page k g e holds now is there =
     }
 
 pub due_next : (log : Log) (page k g : ℕ) (e : Entry) (yields : List WaitFor) → AreDue log page k yields → numbered log page k ≡ Some (g, e)
-    → AreDue log page (k + 1) (yields_after yields g e)
+    → AreDue log page (k + 1) (yields_after g e yields)
 due_next log page k g e yields now is h =
     waits_then yields g h e ∙ ap (λ z. waits_after h z (Some (g, e))) (now h)
     ∙ ap (waits_after h (waits_due log page h k)) (sym is) ∙ ap (waits_due log page h) (sym (add-one k))

@@ -10,7 +10,7 @@ use Rattle.log_entry.specs.declared.log.Entry.{Entry}
 use Rattle.log_entry.specs.declared.log.Entry.TheVariants.{Gain, Yield}
 use Rattle.log_entry.specs.declared.log.Log.{Log}
 use Rattle.log_entry.specs.Parts.{holds_then, strength, conflict}
-use Rattle.order_rules.specs.Rules.{held, waits_due, same_wait}
+use Rattle.order_rules.specs.Rules.{held, waits_due, same_wait, yields_after}
 
 -- what each hart holds, and the yields since the latest gain
 pub record Holding : Type 0 where
@@ -40,14 +40,10 @@ abbrev pub waits_wrongly : List WaitFor → ℕ → Entry → Bool
 waits_wrongly yields h (Gain count page seq mode waits) = not (pointwise same_wait waits.items (waits_of yields h))
 waits_wrongly yields h _ = false
 
-abbrev pub yields_after : List WaitFor → ℕ → Entry → List WaitFor
-yields_after yields h (Yield count page seq left) = yields ++ record { hart = h; count = count } ∷ []
-yields_after yields h _ = []
-
 -- after an entry of the page by a hart, or where no entry has the number
 abbrev pub held_then : Holding → Option (ℕ × Entry) → Holding
 held_then s None = record { holds = s.holds; yields = [] }
-held_then s (Some (h, e)) = record { holds = slice_set s.holds h (holds_then e); yields = yields_after s.yields h e }
+held_then s (Some (h, e)) = record { holds = slice_set s.holds h (holds_then e); yields = yields_after h e s.yields }
 
 -- what each hart holds before a number of a page
 pub record AreHeld (log : Log) (page k : ℕ) (holds : List (Option Mode)) : Type 0 where

@@ -5,7 +5,8 @@ ghost use Rattle.order_rules.specs.Places.{entry_at};
 ghost use Rattle.order_rules.specs.Orderly.{Keeps, spots, o5, o6, o7};
 ghost use Rattle.log_order.specs.declared.series.Series.TheVariants.{Pages};
 ghost use Rattle.log_entry.specs.Parts.{holds_then};
-ghost use Rattle.log_order.specs.Holding.{yields_after, holds_wrongly, waits_wrongly};
+ghost use Rattle.order_rules.specs.Rules.{yields_after};
+ghost use Rattle.log_order.specs.Holding.{holds_wrongly, waits_wrongly};
 ghost use Rattle.log_order.specs.Least.{least_with, IsNumberedBelow, IsLeastSoFar};
 ghost use Rattle.log_order.specs.Rows.{spot_of, AreFilled};
 
@@ -45,7 +46,7 @@ fn judge_entry(
         → r.waits ≡ least_with (waits_wrongly holding.old.yields leg.hart e.now) least.waits leg) }
     ensures held { IfOk result (λ _. holding.new.holds ≡ slice_set holding.old.holds leg.hart (holds_then e.now)) }
     ensures yields { IfOk result (λ r. r.holds ≡ None
-        → holding.new.yields ≡ yields_after holding.old.yields leg.hart e.now) }
+        → holding.new.yields ≡ yields_after leg.hart e.now holding.old.yields) }
 {
     let holds = lesser(least.holds, leg, holding.holds_wrongly(leg.hart, e));
     if holds.is_some() {

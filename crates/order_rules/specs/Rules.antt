@@ -90,6 +90,11 @@ breaks_o6 log x = breaks x.entry where
   breaks (Yield count page seq left) = nat_le (strength (held log page x.hart seq)) (strength left)
   breaks _ = false
 
+-- the Yields of a page since its latest Gain, after an entry of it by a hart
+abbrev pub yields_after : ℕ → Entry → List WaitFor → List WaitFor
+yields_after h (Yield count page seq left) yields = yields ++ record { hart = h; count = count } ∷ []
+yields_after h entry yields = []
+
 -- the Yields by harts other than h since the latest Gain, after an entry of the page
 abbrev pub waits_after : ℕ → List WaitFor → Option (ℕ × Entry) → List WaitFor
 waits_after h waits (Some (g, Yield count page seq left)) = if g == h then waits else waits ++ record { hart = g; count = count } ∷ []

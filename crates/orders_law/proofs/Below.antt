@@ -1,11 +1,23 @@
--- The numbers below one: what is among them, and tests that all or none of them pass.
-use Rattle.std.proofs.Common.{◌≡◌, ◌⊎◌, ℕ, zero, suc, ◌<◌, ◌&&◌, Bool, true, false, cond, find, List, [], ◌∷◌, ◌++◌, slice_get, Option, Some, None}
-use Rattle.std.proofs.Common.{refl, sym, ap₂, ◌∙◌, subst, inl, inr, arith, eq-or-lt_of_le, le_of_suc-le-suc}
+-- The numbers below one: how many they are, what is among them, and tests that all or none of them pass.
+use Rattle.std.proofs.Common.{◌≡◌, ◌⊎◌, ℕ, zero, suc, ◌+◌, ◌<◌, ◌&&◌, Bool, true, false, cond, find, List, [], ◌∷◌, ◌++◌, slice_get, Option, Some, None}
+use Rattle.std.proofs.Common.{length, refl, sym, ap, ap₂, ◌∙◌, subst, inl, inr, arith, eq-or-lt_of_le, le_of_suc-le-suc}
 use Rattle.std.specs.Option.{option_or}
-use Rattle.std.specs.List.{list_all}
+use Rattle.std.specs.List.{list_all, range_with_len}
+use Rattle.std.proofs.lemmas.List.{length_push}
 use Rattle.std.proofs.lemmas.Option.{none-some, same_Some}
 use Rattle.std.proofs.lemmas.List.Folds.{find-append, list_all-append}
+use Rattle.shared_types.proofs.Ranges.{range_more}
 use Rattle.orders_law.specs.Orders.{below}
+
+pub length_below : (n : ℕ) → length (below n) ≡ n
+length_below zero = refl
+length_below (suc n) = let e = length_push (below n) n in let l = length_below n in omega (arith, e, l)
+
+pub below_range : (n : ℕ) → below n ≡ range_with_len 0 n
+below_range zero = refl
+below_range (suc n) = ap (λ ks. ks ++ n ∷ []) (below_range n) ∙ ap (λ k. range_with_len 0 n ++ k ∷ []) (from_zero n) ∙ sym (range_more 0 n) where
+  from_zero : (n : ℕ) → n ≡ 0 + n
+  from_zero n = omega arith
 
 neither : {X : Type 0} (a b : Option X) → option_or a b ≡ None → (a ≡ None) × (b ≡ None)
 neither None b e = (refl, e)

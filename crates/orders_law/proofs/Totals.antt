@@ -1,9 +1,6 @@
 -- Sums of lists of numbers, part by part: what bounds how long an order can go on.
 use Rattle.std.proofs.Common.{◌≡◌, ℕ, zero, suc, ◌+◌, ◌<◌, ◌≤◌, List, [], ◌∷◌, map, length, slice_get, slice_index, unwrap_or, refl, arith}
-
-abbrev pub total : List ℕ → ℕ
-total [] = 0
-total (x ∷ xs) = x + total xs
+use Rattle.orders_law.specs.Orders.{total}
 
 pub total_least : (xs ys : List ℕ) → length xs ≡ length ys → ((i : ℕ) → i < length xs → slice_index xs i ≤ slice_index ys i) → total xs ≤ total ys
 total_least [] ys long each = omega arith

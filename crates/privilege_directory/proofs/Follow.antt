@@ -18,7 +18,7 @@ use Rattle.log_entry.specs.declared.log.Entry.TheVariants.{Gain, Yield, Poll, To
 use Rattle.log_entry.specs.declared.log.Log.{Log}
 use Rattle.log_entry.specs.Parts.{page_number, ordinal_of, holds_then, strength, conflict, units_of}
 use Rattle.order_rules.specs.Places.{harts, entry_at, stream, numbered}
-use Rattle.order_rules.specs.Rules.{waits_due, waits_after, same_wait, breaks_o6, breaks_o7}
+use Rattle.order_rules.specs.Rules.{waits_due, waits_after, same_wait, breaks_o6, breaks_o7, yields_after}
 use Rattle.order_rules.specs.Rules as rules
 use Rattle.order_rules.specs.Orderly.{Keeps, o5, o6, o7}
 use Rattle.order_rules.specs.Cursor.{Cursor, start, take_one, guard_is_met}
@@ -34,11 +34,6 @@ use Rattle.privilege_directory.proofs.Holds.{others_and_one, others_and_own}
 use Rattle.privilege_directory.proofs.Table.{held_of_nobody}
 use Rattle.privilege_directory.proofs.FirstNumber.{none_from}
 use Rattle.order_rules.proofs.Follow.{row_here, row_there}
-
--- the Yields of a page since its latest Gain, after a further entry of it by a hart
-abbrev pub yields_after : ℕ → Entry → List WaitFor → List WaitFor
-yields_after h (Yield count page seq left) yields = yields ++ record { hart = h; count = count } ∷ []
-yields_after h entry yields = []
 
 -- what a Gain by g waits for after the entry by h
 pub after_entry : (g h : ℕ) (e : Entry) (waits yields : List WaitFor) → waits ≡ by_others g yields

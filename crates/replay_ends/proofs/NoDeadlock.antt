@@ -38,7 +38,7 @@ use Rattle.replay_law.proofs.Pairs.{entry_left}
 use Rattle.replay_ends.specs.Laws.{NobodyHoldsAlone}
 use Rattle.crew_recording.proofs.Items.{same_places, entry_places}
 use Rattle.crew_recording.proofs.Steady.{board_steady}
-use Rattle.crew_recording.proofs.Takings.{leads_on}
+use Rattle.orders_law.proofs.Leads.{leads_on}
 
 abbrev is_over : Item → Bool
 is_over Ended = true

@@ -32,16 +32,17 @@ no_option : {X : Type 0} (o : Option X) → cons_option o [] ≡ [] → o ≡ No
 no_option None e = refl
 no_option (Some x) e = let bad : ⊥ = cc in absurd bad
 
-none_below : {X : Type 0} (f : ℕ → Option X) (n : ℕ) → filter_map f (below n) ≡ [] → (i : ℕ) → i < n → f i ≡ None
-none_below f zero e i l = absurd (omega (arith, l))
-none_below f (suc n) e i l =
+-- where there are no answers none of the numbers has one
+pub no_answers : {X : Type 0} (f : ℕ → Option X) (n : ℕ) → filter_map f (below n) ≡ [] → (i : ℕ) → i < n → f i ≡ None
+no_answers f zero e i l = absurd (omega (arith, l))
+no_answers f (suc n) e i l =
     let both = both_empty (filter_map f (below n)) (filter_map f (n ∷ [])) (sym (filter_map-append f (below n) (n ∷ [])) ∙ e) in
     elim (cases_eq i n) [
       | inl same ↦ ap f same ∙ no_option (f n) both.1
-      | inr d ↦ none_below f n both.0 i (omega (arith, l, d))
+      | inr d ↦ no_answers f n both.0 i (omega (arith, l, d))
     ]
 
-no_rule : (h : ℕ) (o : Option ℕ) → option_map {U = ℕ × ℕ} (λ rule. (h, rule)) o ≡ None → o ≡ None
+pub no_rule : (h : ℕ) (o : Option ℕ) → option_map {U = ℕ × ℕ} (λ rule. (h, rule)) o ≡ None → o ≡ None
 no_rule h None e = refl
 no_rule h (Some k) e = absurd (none-some _ (sym e))
 
@@ -65,7 +66,7 @@ module _ (log : Log) (image : Image) (is : IsReplayable log image) (order : List
       each h l =
           ended_or_holds (verdict (board (unit_of log)) log t h)
           (no_rule h (rule_of (verdict (board (unit_of log)) log t h))
-          (none_below (λ h. option_map (λ rule. (h, rule)) (rule_of (verdict (board (unit_of log)) log t h))) (length log.streams) none h l))
+          (no_answers (λ h. option_map (λ rule. (h, rule)) (rule_of (verdict (board (unit_of log)) log t h))) (length log.streams) none h l))
           (λ go. let m = reached_goes log image order t h is obeys l go in none-some _ (sym (full.2.over h) ∙ m.1))
 
   comes_to : (outcome : Outcome FlatState) × (outcome_at (board (unit_of log)) log t ≡ Some outcome)

@@ -4,7 +4,7 @@ use Rattle.std.proofs.Common.{None, slice_index, slice_set, unwrap_or, true≢fa
 use Rattle.std.proofs.lemmas.Bool.{cases_eq, cases_lt, eqb-true, eq-eqb}
 use Rattle.std.proofs.lemmas.List.{length-map, length-replicate, length-set}
 use Rattle.std.proofs.lemmas.Option.{none-some, same_Some}
-use Rattle.orders_law.specs.Orders.{IsFull}
+use Rattle.orders_law.specs.Orders.{IsFull, total}
 use Rattle.log_entry.specs.declared.log.Entry.{Entry}
 use Rattle.log_entry.specs.declared.log.Entry.TheVariants as entries
 use Rattle.log_entry.specs.declared.log.Log.{Log}
@@ -35,7 +35,7 @@ use Rattle.replay_law.proofs.Deeds.{deed, chosen}
 use Rattle.replay_law.proofs.Boards.{made_of, board_local, index_of}
 use Rattle.replay_law.proofs.Orders.{Good, good_first, lasts, no_number, no_more}
 use Rattle.replay_law.proofs.Streams.{first_there, next_there, next_rises, touch_rises}
-use Rattle.orders_law.proofs.Totals.{total, total_least, total_more, index_map}
+use Rattle.orders_law.proofs.Totals.{total_least, total_more, index_map}
 use Rattle.replay_law.proofs.Totals.{most, at_most}
 
 -- a hart's count after its act, and after its item

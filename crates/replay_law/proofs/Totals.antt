@@ -3,7 +3,7 @@ use Rattle.std.proofs.Common.{◌≡◌, ℕ, zero, suc, ◌≤◌, List, [], �
 use Rattle.std.proofs.lemmas.Option.{none-some, same_Some}
 use Rattle.log_entry.specs.declared.log.Entry.{Entry}
 use Rattle.log_entry.specs.Parts.{count_of}
-use Rattle.orders_law.proofs.Totals.{total}
+use Rattle.orders_law.specs.Orders.{total}
 
 -- the counts of a stream's entries, together
 abbrev pub most : List Entry → ℕ

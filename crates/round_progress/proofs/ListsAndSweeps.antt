@@ -12,15 +12,12 @@ use Rattle.turn_model.specs.Turn.{turn}
 use Rattle.turn_model.specs.Lists.{whole_leg, listed, closed_after, comes_to, recorded_by_list}
 use Rattle.turn_model.specs.Rounds.{round_from, with_favoured, sweep, round, last_turns}
 use Rattle.turn_model.specs.Faithful.{IsFaithful}
-use Rattle.turn_model.specs.Laws.{OfHarts}
+use Rattle.turn_model.specs.Laws.{OfHarts, EachBelow}
 use Rattle.round_progress.proofs.Demands.{IsAnswering, IsThere}
-use Rattle.turn_laws.specs.GivenLegs.{EachBelow}
-use Rattle.turn_laws.proofs.ReachedLists.{each_below, round_below, of_each}
+use Rattle.turn_laws.proofs.ReachedLists.{of_each}
 use Rattle.round_progress.proofs.TurnsThere.{Has, turn_there}
-
-pub size_below : (n : ℕ) → length (below n) ≡ n
-size_below zero = refl
-size_below (suc n) = let a = length-append (below n) (n ∷ []) in let e = size_below n in omega (arith, a, e)
+use Rattle.turn_model.proofs.Rounds.{each_below, round_below}
+use Rattle.orders_law.proofs.Below.{length_below}
 
 -- turns without moves
 abbrev still : List ℕ → List (ℕ × ℕ)
@@ -62,7 +59,7 @@ module _ {S V : Type 0} (machine : Recordable S V) (terms : Terms) (many pages :
     where
       rows : (c : Board S) → HasB (2 * many) c → HasB (2 * length (still (harts c)) + 0) c
       rows c has =
-          let s = length-map {B = ℕ × ℕ} (harts c) (λ (h : ℕ). (h, 0)) in let z = size_below (length c.streams) in let e = has.2 in
+          let s = length-map {B = ℕ × ℕ} (harts c) (λ (h : ℕ). (h, 0)) in let z = length_below (length c.streams) in let e = has.2 in
           enough (2 * many) (2 * length (still (harts c)) + 0) c (omega (arith, s, z, e)) has
 
       each : (c : Board S) → HasB (2 * many) c → OfHarts many (still (harts c))
@@ -92,7 +89,7 @@ module _ {S V : Type 0} (machine : Recordable S V) (terms : Terms) (many pages :
   pub round_there : (r : ℕ) (moved : Bool) (n : ℕ) (b : Board S) → HasB (6 * many + n) b → (c : Board S) × (round machine terms r moved b ≡ Some c) × HasB n c
   round_there r moved n b has =
       let hs = round_from r b in
-      let size : length hs ≡ many = length-map (harts b) (λ (i : ℕ). (r + i) % length b.streams) ∙ size_below (length b.streams) ∙ has.2 in
+      let size : length hs ≡ many = length-map (harts b) (λ (i : ℕ). (r + i) % length b.streams) ∙ length_below (length b.streams) ∙ has.2 in
       let each : EachBelow many hs = subst (λ k. EachBelow k hs) has.2 (round_below (length b.streams) r) in
       let x =
       sweep_there r moved hs (2 * length hs + (2 * length hs + n)) b each

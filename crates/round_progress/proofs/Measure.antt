@@ -19,15 +19,15 @@ use Rattle.turn_model.specs.Rounds.{with_favoured, sweep, round}
 use Rattle.turn_model.specs.Faithful.{IsFaithful, AccessesSend}
 use Rattle.turn_model.proofs.LeanJournals.{WantsStay}
 use Rattle.turn_model.proofs.Entries.{can_and_does}
-use Rattle.turn_laws.specs.GivenLegs.{EachBelow}
 use Rattle.round_progress.proofs.Demands.{IsPlain}
 use Rattle.round_progress.specs.Measure.{left_of, has_leg, rounds_left}
-use Rattle.turn_laws.proofs.ReachedLists.{each_below}
 use Rattle.round_progress.proofs.Ways.{In, in_below}
 use Rattle.round_progress.proofs.OtherHarts.{NeedsStay, turn_leaves, turn_same}
 use Rattle.turn_laws.proofs.Ranks.{at_rank, rank, at_inside, rank_inside, rank_at, at_of}
 use Rattle.round_progress.proofs.FirstHart.{sound_of, size_of, fine_favoured, behind_of, went, counts_rise, known}
 use Rattle.round_progress.proofs.Rounds.{FineB, WonB, Along, Idle, Moves, LeadsB, can_move, turn_fine, along_turn, sweep_along, round_sweeps, round_finds}
+use Rattle.turn_model.specs.Laws.{EachBelow}
+use Rattle.turn_model.proofs.Rounds.{each_below}
 
 abbrev is_go : Verdict → Bool
 is_go CanGo = true

@@ -17,12 +17,13 @@ use Rattle.turn_model.proofs.LeanJournals.{WantsStay}
 use Rattle.round_progress.proofs.Demands.{IsAnswering, IsPlain}
 use Rattle.round_progress.specs.Measure.{left_of, has_leg, rounds_left}
 use Rattle.round_progress.proofs.OtherHarts.{NeedsStay}
-use Rattle.turn_laws.proofs.ReachedLists.{each_below}
-use Rattle.round_progress.proofs.ListsAndSweeps.{HasB, round_there, last_there, size_below}
+use Rattle.round_progress.proofs.ListsAndSweeps.{HasB, round_there, last_there}
 use Rattle.round_progress.proofs.FirstHart.{size_of}
 use Rattle.round_progress.proofs.Rounds.{FineB}
 use Rattle.round_progress.proofs.FurtherRounds.{rounds_more}
 use Rattle.round_progress.proofs.Measure.{counts_round, round_falls}
+use Rattle.turn_model.proofs.Rounds.{each_below}
+use Rattle.orders_law.proofs.Below.{length_below}
 
 second : (a b : Bool) → (a || b) ≡ false → b ≡ false
 second true b e = absurd (true≢false e)
@@ -37,7 +38,7 @@ module _ {S V : Type 0} (machine : Recordable S V) (terms : Terms) where
   pub rounds_bound : (b : Board S) → rounds_left machine terms b ≤ 2 * (length b.streams * terms.limit) + 1
   rounds_bound b =
       let l = left_bound b (harts b) in
-      let e = ap (λ n. n * terms.limit) (size_below (length b.streams)) in
+      let e = ap (λ n. n * terms.limit) (length_below (length b.streams)) in
       let u = unit_most (has_leg machine terms b) in omega (arith, l, e, u)
     where
       unit_most : (x : Bool) → (if x then 0 else 1) ≤ 1
@@ -141,7 +142,7 @@ module _ {S V : Type 0} (machine : Recordable S V) (terms : Terms) (many : ℕ) 
       → has_leg machine terms b ≡ false → (r : Recorded S) × (is : IsRecordedInRounds machine terms b r) × (is.number ≤ suc k)
   recorded_there k b l fine has none =
       let x = rounds_end k 0 (2 * many) b l fine has (λ _. none) in
-      let size = size_below (length x.1.streams) in
+      let size = length_below (length x.1.streams) in
       let alike = x.5.2 in
       let c =
       last_there machine terms many terms.pages Good faithful answers (harts x.1) 0 x.1 (each_below many (length x.1.streams) (omega (arith, alike)))

@@ -27,7 +27,8 @@ use Rattle.turn_laws.specs.Reached.{Begun, Turned, Favours}
 use Rattle.turn_laws.specs.Laws.{IsReachable, IsOfTurn}
 use Rattle.turn_laws.proofs.MoreAnswers.{turn_carried, listed_carried}
 use Rattle.turn_laws.proofs.ReachedBoards.{faithful_board, reached_is, sound_of, can_make}
-use Rattle.turn_laws.proofs.ReachedLists.{IsKept, each_below, listed_leads, closed_leads, rounds_lead, last_lead}
+use Rattle.turn_laws.proofs.ReachedLists.{IsKept, listed_leads, closed_leads, rounds_lead, last_lead}
+use Rattle.turn_model.proofs.Rounds.{each_below}
 
 never_cut : (o : Option Cause) → IsOfTurn o → o ≢ Some Cut
 never_cut o of e = subst IsOfTurn e of

@@ -31,20 +31,7 @@ use Rattle.privilege_directory.specs.Directory.{Directory, clash_of}
 use Rattle.turn_model.specs.Laws.{machine_in}
 use Rattle.turn_laws.specs.Laws.{AgreesIn}
 use Rattle.turn_model.specs.Claims.{clash, holds_so, known, needed, claims_against}
-
-range_more : (i n : ℕ) → range_with_len i (suc n) ≡ range_with_len i n ++ (i + n) ∷ []
-range_more i zero = ap (λ x. x ∷ []) (none_more i) where
-  none_more : (i : ℕ) → i ≡ i + 0
-  none_more i = omega arith
-range_more i (suc n) = ap (λ xs. i ∷ xs) (range_more (i + 1) n) ∙ ap (λ x. i ∷ (range_with_len (i + 1) n ++ x ∷ [])) (one_more i n) where
-  one_more : (i n : ℕ) → i + 1 + n ≡ i + suc n
-  one_more i n = omega arith
-
-below_range : (n : ℕ) → below n ≡ range_with_len 0 n
-below_range zero = refl
-below_range (suc n) = ap (λ xs. xs ++ n ∷ []) (below_range n) ∙ ap (λ x. range_with_len 0 n ++ x ∷ []) (zero_more n) ∙ sym (range_more 0 n) where
-  zero_more : (n : ℕ) → n ≡ 0 + n
-  zero_more n = omega arith
+use Rattle.orders_law.proofs.Below.{below_range}
 
 conflicts_turned : (one other : Mode) → conflicts one other ≡ conflicts other one
 conflicts_turned Read Read = refl

@@ -56,11 +56,12 @@ use Rattle.turn_laws.specs.Waits.{yields_in}
 use Rattle.turn_laws.proofs.FewWaits.{IsFewAt, board_of, few_all}
 use Rattle.turn_laws.proofs.EndWalks.{WaitsAt}
 use Rattle.turn_laws.proofs.TurnEnds.{ClosedSo, turn_ends, closed_turn}
-use Rattle.turn_laws.proofs.Waits.{waits_begin, waits_stay}
+use Rattle.turn_laws.proofs.Waits.{waits_begin, waits_stay, yields_at_start}
 use Rattle.turn_laws.proofs.Sizes.{sizes_stay}
 use Rattle.turn_laws.proofs.Legs.{runs_leave, runs_stay, reached_are_crew}
 use Rattle.turn_laws.proofs.ReachedBoards.{faithful_board, can_make, reached_is, sound_of, known}
-use Rattle.turn_laws.proofs.ReachedLists.{IsKept, each_below, listed_leads, closed_leads, rounds_lead, last_lead}
+use Rattle.turn_laws.proofs.ReachedLists.{IsKept, listed_leads, closed_leads, rounds_lead, last_lead}
+use Rattle.turn_model.proofs.Rounds.{each_below}
 
 -- two lines are two bits
 
@@ -71,11 +72,6 @@ board_lines unit s h time = two (_) (_) where
   two true false = omega arith
   two false true = omega arith
   two false false = omega arith
-
-none_first : (pages page : ℕ) → yields_in (replicate pages []) page ≡ []
-none_first zero page = refl
-none_first (suc n) zero = refl
-none_first (suc n) (suc page) = none_first n page
 
 no_entries : (many h : ℕ) → stream_in (replicate many []) h ≡ []
 no_entries zero h = refl
@@ -90,7 +86,7 @@ entry_size (entries.Poll count ord time bits) = omega arith
 entry_size (entries.Touch count ord input) = omega arith
 entry_size (entries.End count) = omega arith
 
-entries_size : (es : List Entry) → length es ≤ sum_by size_of es
+pub entries_size : (es : List Entry) → length es ≤ sum_by size_of es
 entries_size [] = omega arith
 entries_size (e ∷ es) = let one = entry_size e in let rest = entries_size es in let c = sum_by-cons size_of e es in omega (arith, one, rest, c)
 
@@ -140,7 +136,7 @@ module _ (terms : Terms) (image : Image) (many : ℕ) (supply : Supply) (pages :
             (board_of (first_recording terms.pages many (flat_at_start image many))) (replicate terms.pages []) refl refl
             (waits_begin (machine_in terms) terms many (flat_at_start image many) supply);
         few = λ page l. start.few page (let z = length-replicate {A = List (Option Mode)} terms.pages (replicate many None) in omega (arith, l, z));
-        inside = λ page. ap (list_all (is_wait many)) (none_first terms.pages page);
+        inside = λ page. ap (list_all (is_wait many)) (yields_at_start terms.pages page);
         entries = λ h. ap (list_all (is_entry many terms.pages)) (no_entries many h);
         fits = first_fits (board (unit_in terms)) many (IsPagedBoard many terms.pages) faithful.steady faithful.timed terms.pages terms.limit
             (flat_at_start image many) (start_with terms image many pages) (no_place many);

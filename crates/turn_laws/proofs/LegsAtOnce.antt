@@ -6,16 +6,16 @@ use Rattle.std.proofs.lemmas.Option.{same_Some}
 use Rattle.orders_law.specs.Orders.{below}
 use Rattle.elf_image.specs.Image.{Image, IsWhole}
 use Rattle.flat_machine.specs.State.{FlatState}
-use Rattle.turn_model.specs.Laws.{machine_in, first_board}
+use Rattle.turn_model.specs.Laws.{machine_in, first_board, EachBelow}
 use Rattle.turn_model.specs.Board.{Board, Order, Supply, Terms, harts}
 use Rattle.turn_model.specs.Lists.{leg_by, whole_leg}
 use Rattle.turn_model.specs.Rounds.{round_from, with_favoured, sweep, round, last_turns}
 use Rattle.turn_model.specs.Turn.{turn}
 use Rattle.turn_laws.specs.Reached.{Begun, Turned, Favours}
-use Rattle.turn_laws.specs.GivenLegs.{EachBelow, sweep_with, last_with}
+use Rattle.turn_laws.specs.GivenLegs.{sweep_with, last_with}
 use Rattle.turn_laws.proofs.Ranks.{rank, rank_inside, rank_at, at_of}
-use Rattle.turn_laws.proofs.ReachedLists.{each_below, round_below}
 use Rattle.turn_laws.proofs.Legs.{ReachedFrom, reached_are_crew, legs_stay}
+use Rattle.turn_model.proofs.Rounds.{each_below, round_below}
 
 -- a round comes to each hart once
 pub apart : (n r i j : ℕ) → i < n → j < n → (r + i) % n ≡ (r + j) % n → i ≡ j

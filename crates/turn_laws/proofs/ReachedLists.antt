@@ -9,30 +9,14 @@ use Rattle.orders_law.specs.Orders.{below}
 use Rattle.shared_types.proofs.Lists.{bound_to}
 use Rattle.turn_model.specs.Recordable.{Recordable}
 use Rattle.turn_model.specs.Board.{Board, Supply, Terms, harts, closes, is_over}
-use Rattle.turn_model.specs.Laws.{OfHarts}
+use Rattle.turn_model.specs.Laws.{OfHarts, EachBelow}
 use Rattle.turn_model.specs.Lists.{whole_leg, listed, closed_after}
 use Rattle.turn_model.specs.Rounds.{round_from, with_favoured, sweep, round, rounds, last_turns}
 use Rattle.turn_model.specs.Turn.{turn}
 use Rattle.turn_laws.specs.Reached.{Reached, Begun, Turned, Favours, Shut}
-use Rattle.turn_laws.specs.GivenLegs.{EachBelow}
 use Rattle.turn_laws.specs.Supplies.{IsSpent, followed_by, with_more, Extends, IsExtended, Always, NoAnswer, NotTaken}
 use Rattle.turn_laws.proofs.MoreAnswers.{turn_carried}
-
-each_more : (n : ℕ) (xs : List ℕ) (h : ℕ) → EachBelow n xs → h < n → EachBelow n (xs ++ h ∷ [])
-each_more n [] h all l = (l, tt)
-each_more n (x ∷ xs) h all l = (all.0, each_more n xs h all.1 l)
-
-pub each_below : (n k : ℕ) → k ≤ n → EachBelow n (below k)
-each_below n zero l = tt
-each_below n (suc k) l = each_more n (below k) k (each_below n k (omega (arith, l))) (omega (arith, l))
-
-each_round : (n r : ℕ) (xs : List ℕ) → zero < n → EachBelow n (map (λ i. (r + i) % n) xs)
-each_round n r [] l = tt
-each_round n r (x ∷ xs) l = (mod-lt (r + x) l, each_round n r xs l)
-
-pub round_below : (n r : ℕ) → EachBelow n (map (λ i. (r + i) % n) (below n))
-round_below zero r = tt
-round_below (suc n) r = each_round (suc n) r (below (suc n)) (omega arith)
+use Rattle.turn_model.proofs.Rounds.{each_below, round_below}
 
 pub of_each : (n : ℕ) (hs : List ℕ) → EachBelow n hs → OfHarts n (map (λ (h : ℕ). (h, 0)) hs)
 of_each n [] all = tt

@@ -12,14 +12,14 @@ use Rattle.turn_model.specs.Recordable.{Recordable}
 use Rattle.turn_model.specs.Ways.{log_size, entered}
 use Rattle.turn_model.proofs.LogSizes.{total, total_is, total_none}
 
-total_more : (streams : List (List Entry)) (h : ℕ) (e : Entry) → h < length streams
+pub total_more : (streams : List (List Entry)) (h : ℕ) (e : Entry) → h < length streams
     → total (slice_set streams h (stream_in streams h ++ e ∷ [])) ≡ total streams + size_of e
 total_more [] h e l = absurd (omega (arith, l))
 total_more (s ∷ streams) zero e l = let m = sum_by_push size_of s e in omega (arith, m)
 total_more (s ∷ streams) (suc h) e l = let r = total_more streams h e (omega (arith, l)) in omega (arith, r)
 
 module _ {S V : Type 0} (machine : Recordable S V) (terms : Terms) where
-  size_is : (b : Board S) → log_size machine terms b ≡ 49 + total b.streams
+  pub size_is : (b : Board S) → log_size machine terms b ≡ 49 + total b.streams
   size_is b = let t = total_is (unit_in terms) (length (ended_streams machine terms b)) 0 (machine.flat.count b.at.flat) b.streams in omega (arith, t)
 
   pub sizes_stay : (b c : Board S) → c.streams ≡ b.streams → log_size machine terms c ≡ log_size machine terms b

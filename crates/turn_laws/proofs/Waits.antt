@@ -18,7 +18,7 @@ use Rattle.flat_machine.specs.declared.act.Act.{Act}
 use Rattle.flat_machine.specs.declared.act.Act.TheVariants as acts
 use Rattle.order_rules.specs.Places.{number_on, is_number, numbered}
 use Rattle.order_rules.specs.Cursor.{Cursor, taken}
-use Rattle.order_rules.specs.Rules.{waits_due, waits_after}
+use Rattle.order_rules.specs.Rules.{waits_due, waits_after, yields_after}
 use Rattle.replay_model.specs.State.{Replay}
 use Rattle.replay_model.specs.Items.{Move, Makes, Verdict, HasEnded, Holds, CanGo, HasDiverged, goes, verdict_on, made, acted, effect, past, holds}
 use Rattle.replay_model.specs.Items.{ends_reservation}
@@ -28,13 +28,12 @@ use Rattle.crew_recording.specs.Recording.{stream_in}
 use Rattle.std.proofs.lemmas.List.{length-set, length-replicate}
 use Rattle.replay_law.proofs.Cursors.{index_there}
 use Rattle.privilege_directory.specs.Directory.{by_others}
-use Rattle.privilege_directory.proofs.Holds.{others_and_one, others_and_own}
-use Rattle.privilege_directory.proofs.Follow.{number_at_start}
+use Rattle.privilege_directory.proofs.Follow.{number_at_start, after_entry}
 use Rattle.turn_model.specs.Recordable.{Recordable}
 use Rattle.turn_model.specs.Board.{Board, Supply, Terms, board_at_start, count, log_of, stream}
 use Rattle.turn_model.specs.Ways.{entered}
 use Rattle.turn_model.specs.Steps.{runs, next_number, gain_of}
-use Rattle.turn_laws.specs.Waits.{yields_in, yields_after, yields_by, AreYields}
+use Rattle.turn_laws.specs.Waits.{yields_in, yields_by, AreYields}
 
 -- the first entry of some streams that passes a test, with its hart, from this one on
 abbrev look : (Entry → Bool) → ℕ → List (List Entry) → Option (ℕ × Entry)
@@ -109,23 +108,7 @@ pub waits_alike : (one other : Log) (page h k : ℕ) → ((j : ℕ) → j < k �
 waits_alike one other page h zero same = refl
 waits_alike one other page h (suc k) same = ap₂ (waits_after h) (waits_alike one other page h k (λ j l. same j (omega (arith, l)))) (same k (omega arith))
 
--- what a Gain by g waits for after the entry by h
-waits_then : (g h : ℕ) (e : Entry) (waits yields : List WaitFor) → waits ≡ by_others g yields
-    → waits_after g waits (Some (h, e)) ≡ by_others g (yields_after h e yields)
-waits_then g h (Gain count page seq mode ws) waits yields same = refl
-waits_then g h (Poll count ord time bits) waits yields same = refl
-waits_then g h (Touch count ord input) waits yields same = refl
-waits_then g h (End count) waits yields same = refl
-waits_then g h (Yield count page seq left) waits yields same = elim (eqb_tells h g) [
-  | inl (t, e) ↦
-      ap (λ b. if b then waits else waits ++ record { hart = h; count = count } ∷ []) t ∙ same
-      ∙ subst (λ z. by_others z yields ≡ by_others z (yields ++ record { hart = h; count = count } ∷ [])) e (sym (others_and_own h count yields))
-  | inr (f, n) ↦
-      ap (λ b. if b then waits else waits ++ record { hart = h; count = count } ∷ []) f ∙ ap (λ ws. ws ++ record { hart = h; count = count } ∷ []) same
-      ∙ sym (others_and_one h g count yields (λ e. n (sym e)))
-]
-
-yields_at_start : (pages page : ℕ) → yields_in (replicate pages []) page ≡ []
+pub yields_at_start : (pages page : ℕ) → yields_in (replicate pages []) page ≡ []
 yields_at_start zero page = refl
 yields_at_start (suc n) zero = refl
 yields_at_start (suc n) (suc i) = yields_at_start n i
@@ -298,7 +281,7 @@ module _ {S V : Type 0} (machine : Recordable S V) (terms : Terms) where
           (waits_alike (log_of machine terms c) (log_of machine terms b) p.0 g p.1
           (λ j less. numbered_other h e b c p.0 j streams (test_here j ∙ ne_eqb p.1 j (λ z. absurd (omega (arith, z, less))))))
           (numbered_new h e b c p.0 p.1 l streams (test_here p.1 ∙ eq-eqb p.1 p.1 refl) (are.none_yet p.0 p.1 (omega (arith, number))))
-          ∙ waits_then g h e (waits_due (log_of machine terms b) p.0 g p.1) (yields_in yields p.0)
+          ∙ after_entry g h e (waits_due (log_of machine terms b) p.0 g p.1) (yields_in yields p.0)
           (ap (waits_due (log_of machine terms b) p.0 g) number ∙ are.waits p.0 g inside)
           ∙ ap (λ o. by_others g (unwrap_or o [])) (sym (set_here yields p.0 (yields_after h e (yields_in yields p.0)) inside)))
         where

@@ -6,10 +6,6 @@ use Rattle.turn_model.specs.Board.{Board, Terms}
 use Rattle.turn_model.specs.Turn.{turn}
 use Rattle.turn_model.specs.Rounds.{with_favoured}
 
-abbrev pub EachBelow : ℕ → List ℕ → Type 0
-EachBelow n [] = Unit {0}
-EachBelow n (h ∷ hs) = (h < n) × EachBelow n hs
-
 module _ {S V : Type 0} (machine : Recordable S V) (terms : Terms) where
   -- a sweep in which each hart has this leg
   abbrev pub sweep_with : ℕ → (ℕ → ℕ) → List ℕ → Board S → Option (Board S)

@@ -31,10 +31,10 @@ use Rattle.turn_model.specs.Steps.{runs, next_number, next_poll, gain_of, steps}
 use Rattle.turn_model.specs.Turn.{turn}
 use Rattle.turn_model.specs.Lists.{Recorded, leg, whole_leg, listed, closed_after, comes_to, recorded_by_list}
 use Rattle.turn_model.specs.Rounds.{round_from, sweep, round, rounds, last_turns, IsRecordedInRounds}
-use Rattle.turn_model.specs.Laws.{IsPagedBoard, OfHarts, machine_in, first_board}
+use Rattle.turn_model.specs.Laws.{IsPagedBoard, OfHarts, machine_in, first_board, EachBelow}
 use Rattle.turn_laws.specs.Supplies.{IsSpent, followed_by, with_more, WithMore, IsCarried, IsCarriedStep, AreCarried}
 use Rattle.turn_laws.specs.Reached.{Reached}
-use Rattle.turn_laws.specs.GivenLegs.{EachBelow, sweep_with, last_with}
+use Rattle.turn_laws.specs.GivenLegs.{sweep_with, last_with}
 use Rattle.turn_laws.specs.Polls.{IsPolledTo}
 use Rattle.turn_laws.specs.Waits.{yields_in, yields_by, AreYields}
 

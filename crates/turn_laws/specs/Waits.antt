@@ -1,10 +1,9 @@
 -- What a hart that gains a page waits for, by the Yields of pages since their latest Gains.
-use Rattle.std.specs.Prelude.{ℕ, ◌≡◌, ◌<◌, ◌≤◌, ◌++◌, ◌∷◌, List, [], length, slice_get, slice_set, Option, Some, None, unwrap_or}
+use Rattle.std.specs.Prelude.{ℕ, ◌≡◌, ◌<◌, ◌≤◌, List, [], length, slice_get, slice_set, Option, Some, None, unwrap_or}
 use Rattle.log_entry.specs.declared.waits.WaitFor.{WaitFor}
 use Rattle.log_entry.specs.declared.log.Entry.{Entry}
-use Rattle.log_entry.specs.declared.log.Entry.TheVariants.{Yield}
 use Rattle.order_rules.specs.Places.{numbered}
-use Rattle.order_rules.specs.Rules.{waits_due}
+use Rattle.order_rules.specs.Rules.{waits_due, yields_after}
 use Rattle.privilege_directory.specs.Directory.{by_others}
 use Rattle.turn_model.specs.Recordable.{Recordable}
 use Rattle.turn_model.specs.Board.{Board, Terms, log_of}
@@ -12,11 +11,6 @@ use Rattle.turn_model.specs.Steps.{next_number}
 
 abbrev pub yields_in : List (List WaitFor) → ℕ → List WaitFor
 yields_in yields page = unwrap_or (slice_get yields page) []
-
--- those of a page, after a further entry of it by a hart
-abbrev pub yields_after : ℕ → Entry → List WaitFor → List WaitFor
-yields_after h (Yield count page seq left) yields = yields ++ record { hart = h; count = count } ∷ []
-yields_after h entry yields = []
 
 -- those of all pages, after an entry by a hart, of this page and number, if of any
 abbrev pub yields_by : ℕ → Entry → Option (ℕ × ℕ) → List (List WaitFor) → List (List WaitFor)

@@ -202,7 +202,7 @@ load_did d e words.Stop inputs.Empty w is = absurd (none-some _ is)
 load_did d e words.Stop (inputs.Byte b) w is = absurd (none-some _ is)
 load_did d e words.Stop (inputs.Time t) w is = absurd (none-some _ is)
 
-none_given : (word : DeviceWord) → bytes_given word None ≡ []
+pub none_given : (word : DeviceWord) → bytes_given word None ≡ []
 none_given (words.Msip h) = refl
 none_given (words.CompareLow h) = refl
 none_given (words.CompareHigh h) = refl

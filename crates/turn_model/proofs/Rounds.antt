@@ -17,10 +17,7 @@ use Rattle.turn_model.proofs.Turns.{CanMove}
 use Rattle.turn_model.proofs.Boards.{begin, can_leg, no_leg, reached_sound, reached_begin, reached_aside, reached_turn, closing_turn, closing_begin, done_turn}
 use Rattle.turn_model.proofs.EndCauses.{agrees}
 use Rattle.turn_model.proofs.ListsOfTurns.{Reached, Closing, Done, Agrees, IsFresh, is_done}
-
-abbrev EachBelow : ℕ → List ℕ → Type 0
-EachBelow n [] = Unit {0}
-EachBelow n (h ∷ hs) = (h < n) × EachBelow n hs
+use Rattle.turn_model.specs.Laws.{EachBelow}
 
 pub each_more : (n : ℕ) (xs : List ℕ) (h : ℕ) → EachBelow n xs → h < n → EachBelow n (xs ++ h ∷ [])
 each_more n [] h all l = (l, tt)

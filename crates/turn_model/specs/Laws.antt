@@ -27,6 +27,11 @@ pub record IsPagedBoard (harts pages : ℕ) (s : FlatState) : Type 0 where
   pub counts_size : length s.counts ≡ harts
   pub pages_are : (h : ℕ) (x : Hart) → slice_get s.harts h ≡ Some x → x.pages ≡ pages
 
+-- numbers below one
+abbrev pub EachBelow : ℕ → List ℕ → Type 0
+EachBelow n [] = Unit {0}
+EachBelow n (h ∷ hs) = (h < n) × EachBelow n hs
+
 -- the rows of a list are of harts that the board has
 abbrev pub OfHarts : ℕ → List (ℕ × ℕ) → Type 0
 OfHarts harts [] = Unit {0}
