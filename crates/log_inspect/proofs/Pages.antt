@@ -1,7 +1,6 @@
 -- Pages of a log in range are below its number of pages.
-use Rattle.std.proofs.Common.{◌≡◌, ◌<◌, ℕ, zero, suc, ◌+◌, ◌++◌, ◌∷◌, [], ap, ◌∙◌, arith}
+use Rattle.std.proofs.Common.{◌≡◌, ◌<◌, ℕ, ap, arith}
 use Rattle.std.specs.Prelude.{Some, IsTrue, length, ◌^◌}
-use Rattle.std.specs.List.{range_with_len}
 use Rattle.log_entry.specs.Range.{in_range}
 use Rattle.log_order.proofs.Refusals.{small}
 use Rattle.std.proofs.lemmas.Option.{none-some, same_Some}
@@ -33,14 +32,3 @@ pages_below kind log small h i e p at is =
 
 pub few_harts : (log : Log) → IsTrue (in_range log) → length log.streams < 2 ^ 8
 few_harts log range = omega (arith, (small log range).harts)
-
-counted_on : (a n : ℕ) → range_with_len a (suc n) ≡ range_with_len a n ++ ((a + n) ∷ [])
-counted_on a zero = ap (λ z. z ∷ []) (omega arith)
-counted_on a (suc n) = ap (λ z. a ∷ z) (counted_on (a + 1) n ∙ ap (λ z. range_with_len (a + 1) n ++ (z ∷ [])) (omega arith))
-
--- the pages below one more
-pub range_more : (n : ℕ) → range_with_len 0 (n + 1) ≡ range_with_len 0 n ++ (n ∷ [])
-range_more n =
-    let next : n + 1 ≡ suc n = omega arith in
-    let from_zero : 0 + n ≡ n = omega arith in
-    ap (range_with_len 0) next ∙ counted_on 0 n ∙ ap (λ z. range_with_len 0 n ++ (z ∷ [])) from_zero

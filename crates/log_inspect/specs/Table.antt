@@ -1,6 +1,6 @@
 -- For each Gain with waits a line: the page, the number there, the hart, and the yields that it waits for. Lines stand by
 -- page, number, hart and entry.
-use Rattle.std.specs.Prelude.{ℕ, ◌+◌, ◌*◌, ◌^◌, List, [], ◌∷◌, ◌++◌, flat_map, codes, Option, Some, None}
+use Rattle.std.specs.Prelude.{ℕ, List, [], ◌∷◌, ◌++◌, flat_map, codes, Option, Some, None}
 use Rattle.std.specs.Option.{option_map_or}
 use Rattle.std.specs.List.{filter_map, enumerate_from}
 use Rattle.std.specs.Fmt.{decimal}
@@ -32,9 +32,9 @@ hand_overs_in streams = flat_map (λ x. hand_overs_of x.0 x.1) (enumerate_from 0
 abbrev pub hand_overs : Log → List HandOver
 hand_overs log = hand_overs_in log.streams
 
--- pages count before numbers, which are below 2^32
-abbrev pub rank : HandOver → ℕ
-rank x = x.page * 2 ^ 32 + x.seq
+-- by page, number, hart and entry: a stable order by numbers, and then by pages
+abbrev pub in_order : List HandOver → List HandOver
+in_order gains = by_number (λ x. x.page) (by_number (λ x. x.seq) gains)
 
 abbrev pub waits_in : Entry → List WaitFor
 waits_in (Gain count page seq mode waits) = waits.items
@@ -62,4 +62,4 @@ lines_of log gains = flat_map (λ x. table_line log x) gains
 
 -- a line for each Gain with waits
 abbrev pub hand_over_lines : Log → List ℕ
-hand_over_lines log = lines_of log (by_number rank (hand_overs log))
+hand_over_lines log = lines_of log (in_order (hand_overs log))

@@ -3,7 +3,7 @@ ghost use Rattle.std.specs.Prelude.{◌≡◌, ◌<◌, ◌^◌, ◌++◌, [], l
 ghost use Rattle.std.specs.List.{cons_option};
 ghost use Rattle.log_entry.specs.Range.{in_range};
 ghost use Rattle.log_inspect.specs.ByNumber.{by_number};
-ghost use Rattle.log_inspect.specs.Table.{hand_over, hand_overs_of, hand_overs_in, hand_overs, rank, waits_in, waits_of, next_yield, yields_text, table_head, table_line, lines_of, hand_over_lines};
+ghost use Rattle.log_inspect.specs.Table.{hand_over, hand_overs_of, hand_overs_in, hand_overs, in_order, waits_in, waits_of, next_yield, yields_text, table_head, table_line, lines_of, hand_over_lines};
 
 use crate::listing::put_yield;
 use log_entry::{Entries, Entry, Log, WaitFor};
@@ -18,15 +18,6 @@ pub(crate) struct HandOver {
     seq: u32,
     hart: u8,
     entry: usize,
-}
-
-impl HandOver {
-    /// Pages count before numbers.
-    fn rank(&self) -> u64
-        ensures { result ≡ rank self.now }
-    {
-        u64::from(self.page) * 0x1_0000_0000 + u64::from(self.seq)
-    }
 }
 
 fn hand_over(hart: u8, place: usize, e: &Entry) -> Option<HandOver>
@@ -82,14 +73,29 @@ fn add_streams(gains: &mut Vec<HandOver>, streams: &[Entries]) -> Result<(), All
     Ok(())
 }
 
-/// The Gains with waits, by page, number, hart and entry.
+fn sort_by_seq(gains: &mut Vec<HandOver>) -> Result<(), AllocError>
+    ensures { OnOk result (gains.new.items ≡ by_number (λ x. x.seq) gains.old.items) }
+{
+    gains.sort_by_key(|x| x.seq)?;
+    Ok(())
+}
+
+fn sort_by_page(gains: &mut Vec<HandOver>) -> Result<(), AllocError>
+    ensures { OnOk result (gains.new.items ≡ by_number (λ x. x.page) gains.old.items) }
+{
+    gains.sort_by_key(|x| x.page)?;
+    Ok(())
+}
+
+/// The Gains with waits, by page, number, hart and entry: both sorts are stable.
 fn sorted_gains(alloc: Global, l: &Log) -> Result<Vec<HandOver>, AllocError>
     requires { length l.now.streams < 2 ^ 8 }
-    ensures { IfOk result (λ v. v.items ≡ by_number rank (hand_overs l.now)) }
+    ensures { IfOk result (λ v. v.items ≡ in_order (hand_overs l.now)) }
 {
     let mut gains = Vec::new(alloc);
     add_streams(&mut gains, l.streams.items())?;
-    gains.sort_by_key(|x| x.rank())?;
+    sort_by_seq(&mut gains)?;
+    sort_by_page(&mut gains)?;
     Ok(gains)
 }
 

@@ -1,5 +1,5 @@
 use Rattle.log_inspect.specs.Listing.{hart_lines}
-use Rattle.log_inspect.proofs.Numbered.{one_line_more}
+use Rattle.shared_types.proofs.Ranges.{one_line_more}
 use Rattle.log_inspect.proofs.listing.put_harts.Goals as goal
 
 pub loop-number-preserved : goal.loop-number-preserved

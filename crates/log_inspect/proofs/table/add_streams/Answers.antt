@@ -1,5 +1,5 @@
 use Rattle.log_inspect.specs.Table.{hand_overs_of}
-use Rattle.log_inspect.proofs.Numbered.{one_line_more}
+use Rattle.shared_types.proofs.Ranges.{one_line_more}
 use Rattle.log_inspect.proofs.table.add_streams.Goals as goal
 
 pub loop-hart-preserved : goal.loop-hart-preserved

@@ -4,7 +4,7 @@ use Rattle.std.specs.List.{flat_map, range_with_len}
 use Rattle.std.proofs.lemmas.List.{flat_map_more}
 use Rattle.log_inspect.specs.declared.totals.Kind.TheVariants.{Gains}
 use Rattle.log_inspect.specs.Totals.{total, total_line, line_of_page}
-use Rattle.log_inspect.proofs.Pages.{range_more}
+use Rattle.shared_types.proofs.Ranges.{range_next}
 use Rattle.log_inspect.proofs.totals.put_pages.Goals as goal
 
 pub loop-page-preserved : goal.loop-page-preserved
@@ -17,4 +17,4 @@ loop-page-preserved c =
     ∙ ap (λ n. told ++ total_line page (total Gains log page) n) (c.requires.yields.1 page)
     ∙ ap (λ bs. bs ++ line_of_page log page) c.loop-page.invariant
     ∙ flat_map_more (λ p. line_of_page log p) (string_bytes c.args.out.now) (range_with_len 0 page) page
-    ∙ ap (λ ps. string_bytes c.args.out.now ++ flat_map (λ p. line_of_page log p) ps) (sym (range_more page))
+    ∙ ap (λ ps. string_bytes c.args.out.now ++ flat_map (λ p. line_of_page log p) ps) (sym (range_next page))
