@@ -1,14 +1,14 @@
-use crate::bytes_tests::SMALLEST;
+use crate::bytes_tests::smallest;
 use crate::making::long_log;
 use crate::{measure, spell};
 use Refusal::{Disorderly, Malformed};
 use anyhow::{Result, anyhow};
 use log_entry::{Cause, Entries, Entry, Log, Mode, Streams, WaitFor, Waits};
 use log_format::{ReadError, read_log};
-use log_order::{Leg, OrderError, Orderly, least_order, put_in_order};
+use log_order::{Leg, OrderError, least_order, put_in_order};
 use std::alloc::Global;
 
-fn log(pages: u16, limit: u64, streams: Vec<Entries>) -> Log {
+pub(crate) fn log(pages: u16, limit: u64, streams: Vec<Entries>) -> Log {
     Log {
         pages,
         limit,
@@ -18,7 +18,7 @@ fn log(pages: u16, limit: u64, streams: Vec<Entries>) -> Log {
     }
 }
 
-fn poll(ord: u32) -> Entry {
+pub(crate) fn poll(ord: u32) -> Entry {
     Entry::Poll {
         count: 0,
         ord,
@@ -27,7 +27,7 @@ fn poll(ord: u32) -> Entry {
     }
 }
 
-fn gain(alloc: Global, count: u64, page: u32, seq: u32) -> Entry {
+pub(crate) fn gain(alloc: Global, count: u64, page: u32, seq: u32) -> Entry {
     let waits = Waits::of(Vec::new(alloc));
     let mode = Mode::Read;
     Entry::Gain {
@@ -96,21 +96,29 @@ fn damages() -> [(usize, usize, u8, Refusal); 19] {
 
 /// Two harts that race for a word of page 1.
 fn race_log(alloc: Global) -> Result<Log> {
+    let first_gain = gain(alloc, 0, 0, 0);
+    let first_read = gain(alloc, 1, 1, 0);
+    let first_write = gain_after(alloc, 3, 1, 3)?;
+    let end = Entry::End { count: 8 };
     let first = Entries::of(vec![in alloc;
         poll(0),
-        gain(alloc, 0, 0, 0),
-        gain(alloc, 1, 1, 0),
-        gain_after(alloc, 3, 1, 3)?,
+        first_gain,
+        first_read,
+        first_write,
         give_up(8, 4),
-        Entry::End { count: 8 },
+        end,
     ]?);
+    let second_gain = gain(alloc, 0, 0, 1);
+    let second_read = gain(alloc, 1, 1, 1);
+    let second_write = gain_after(alloc, 5, 0, 8)?;
+    let end = Entry::End { count: 8 };
     let second = Entries::of(vec![in alloc;
         poll(1),
-        gain(alloc, 0, 0, 1),
-        gain(alloc, 1, 1, 1),
+        second_gain,
+        second_read,
         give_up(3, 2),
-        gain_after(alloc, 5, 0, 8)?,
-        Entry::End { count: 8 },
+        second_write,
+        end,
     ]?);
     Ok(log(2, 8, vec![in alloc; first, second]?))
 }
@@ -123,12 +131,6 @@ fn gains(alloc: Global, numbers: &[(u32, u32)]) -> Result<Entries> {
     }
     entries.push(Entry::End { count: 0 })?;
     Ok(Entries::of(entries))
-}
-
-/// The log is written, read again and put in order.
-fn ordered(alloc: Global, log: &Log) -> Result<Orderly> {
-    let bytes = spell(alloc, log)?;
-    Ok(put_in_order(alloc, read_log(alloc, &bytes)?)?)
 }
 
 fn judged(alloc: Global, bytes: &[u8]) -> Result<Option<Refusal>> {
@@ -146,7 +148,7 @@ fn judged(alloc: Global, bytes: &[u8]) -> Result<Option<Refusal>> {
 }
 
 fn damaged(alloc: Global, from: usize, to: usize, value: u8) -> Result<Vec<u8>> {
-    let mut bytes = SMALLEST.to_vec(alloc)?;
+    let mut bytes = smallest().to_vec(alloc)?;
     for at in from..to {
         if let Some(byte) = bytes.get_mut(at) {
             *byte = value;
@@ -155,39 +157,58 @@ fn damaged(alloc: Global, from: usize, to: usize, value: u8) -> Result<Vec<u8>> 
     Ok(bytes)
 }
 
-fn legs(alloc: Global, orderly: &Orderly) -> Result<Vec<Leg>> {
-    least_order(alloc, orderly).map_err(|_| anyhow!("memory ran out"))
+fn damaged_refusal(alloc: Global, from: usize, to: usize, value: u8) -> Result<Option<Refusal>> {
+    judged(alloc, &damaged(alloc, from, to, value)?)
+}
+
+/// What is said of two harts that gain these pages by these numbers.
+fn gains_judged(
+    alloc: Global,
+    pages: u16,
+    first: &[(u32, u32)],
+    second: &[(u32, u32)],
+) -> Result<Option<Refusal>> {
+    let first = gains(alloc, first)?;
+    let second = gains(alloc, second)?;
+    let bytes = spell(alloc, &log(pages, 0, vec![in alloc; first, second]?))?;
+    judged(alloc, &bytes)
+}
+
+/// Whether bytes spell a log of this limit, the least order of which goes so: each entry by its hart and
+/// number.
+fn is_ordered(alloc: Global, bytes: &[u8], limit: u64, order: &[(u8, u32)]) -> Result<bool> {
+    let orderly = put_in_order(alloc, read_log(alloc, bytes)?)?;
+    let legs = least_order(alloc, &orderly).map_err(|_| anyhow!("memory ran out"))?;
+    let mut told = Vec::new(alloc);
+    for (hart, entry) in order {
+        told.push(Leg {
+            hart: *hart,
+            entry: *entry,
+        })?;
+    }
+    Ok(orderly.log().limit == limit && legs.as_slice() == told.as_slice())
+}
+
+fn smallest_order() -> [(u8, u32); 3] {
+    [(0, 0), (0, 1), (0, 2)]
 }
 
 #[test]
 fn the_least_order_of_one_hart_is_its_stream(rt: HostRuntime) -> Result<()> {
-    let alloc = rt.alloc();
-    let orderly = put_in_order(alloc, read_log(alloc, &SMALLEST)?)?;
-    assert_eq!(rt; orderly.log().limit, 100);
-    let hart = 0;
-    let order = [0, 1, 2].map(|entry| Leg { hart, entry });
-    assert_eq!(rt; legs(alloc, &orderly)?.as_slice(), order.as_slice());
+    assert!(rt; is_ordered(rt.alloc(), &smallest(), 100, &smallest_order())?);
     Ok(())
+}
+
+#[rattlefmt::skip]
+fn race_order() -> [(u8, u32); 10] {
+    [(0, 0), (0, 1), (0, 2), (1, 0), (1, 1), (1, 2), (1, 3), (0, 3), (0, 4), (1, 4)]
 }
 
 #[test]
 fn the_least_order_of_a_race_waits_for_its_numbers(rt: HostRuntime) -> Result<()> {
     let alloc = rt.alloc();
-    let orderly = ordered(alloc, &race_log(alloc)?)?;
-    let order = [
-        (0, 0),
-        (0, 1),
-        (0, 2),
-        (1, 0),
-        (1, 1),
-        (1, 2),
-        (1, 3),
-        (0, 3),
-        (0, 4),
-        (1, 4),
-    ];
-    let order = order.map(|(hart, entry)| Leg { hart, entry });
-    assert_eq!(rt; legs(alloc, &orderly)?.as_slice(), order.as_slice());
+    let bytes = spell(alloc, &race_log(alloc)?)?;
+    assert!(rt; is_ordered(alloc, &bytes, 8, &race_order())?);
     Ok(())
 }
 
@@ -196,37 +217,40 @@ fn a_damaged_log_is_refused_at_its_first_bad_field_or_by_its_least_broken_rule(
     rt: HostRuntime,
 ) -> Result<()> {
     for (from, to, value, expected) in damages() {
-        let bytes = damaged(rt.alloc(), from, to, value)?;
-        assert_eq!(rt; judged(rt.alloc(), &bytes)?, Some(expected));
+        assert_eq!(rt;
+            damaged_refusal(rt.alloc(), from, to, value)?,
+            Some(expected)
+        );
     }
     Ok(())
 }
 
 #[test]
 fn two_harts_cant_have_one_number(rt: HostRuntime) -> Result<()> {
-    let alloc = rt.alloc();
-    let streams = vec![in alloc; gains(alloc, &[(0, 0)])?, gains(alloc, &[(0, 0)])?]?;
-    let bytes = spell(alloc, &log(1, 0, streams))?;
-    assert_eq!(rt; judged(alloc, &bytes)?, Some(Disorderly(5, 1, 0)));
+    let said = gains_judged(rt.alloc(), 1, &[(0, 0)], &[(0, 0)])?;
+    assert_eq!(rt; said, Some(Disorderly(5, 1, 0)));
     Ok(())
 }
 
 #[test]
 fn two_harts_cant_wait_for_each_other(rt: HostRuntime) -> Result<()> {
-    let alloc = rt.alloc();
-    let first = gains(alloc, &[(0, 1), (1, 0)])?;
-    let second = gains(alloc, &[(1, 1), (0, 0)])?;
-    let bytes = spell(alloc, &log(2, 0, vec![in alloc; first, second]?))?;
-    assert_eq!(rt; judged(alloc, &bytes)?, Some(Disorderly(9, 0, 0)));
+    let said = gains_judged(rt.alloc(), 2, &[(0, 1), (1, 0)], &[(1, 1), (0, 0)])?;
+    assert_eq!(rt; said, Some(Disorderly(9, 0, 0)));
     Ok(())
+}
+
+// The head, two numbers of entries, two Polls, six Gains of which one has no wait, six Yields, two Ends
+// and the cause.
+fn size_of_three_rounds() -> usize {
+    48 + 2 * 4 + 2 * 22 + 6 * 17 + 5 * 9 + 6 * 16 + 2 * 9 + 1
 }
 
 #[test]
 fn all_entries_of_a_long_log_are_in_order(rt: HostRuntime) -> Result<()> {
     let log = long_log(rt.alloc(), 3)?;
-    // The head, two numbers of entries, two Polls, six Gains of which one has no wait, six Yields,
-    // two Ends and the cause.
-    let size = 48 + 2 * 4 + 2 * 22 + 6 * 17 + 5 * 9 + 6 * 16 + 2 * 9 + 1;
-    assert_eq!(rt; measure(rt.alloc(), log)?, (size, 2 + 4 * 3));
+    assert_eq!(rt;
+        measure(rt.alloc(), log)?,
+        (size_of_three_rounds(), 2 + 4 * 3)
+    );
     Ok(())
 }

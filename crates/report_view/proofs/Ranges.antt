@@ -1,11 +1,8 @@
--- One further number of a range.
-use Rattle.std.proofs.Common.{◌≡◌, ℕ, zero, suc, ◌+◌, ◌-◌, ◌≤◌, List, [], ◌∷◌, ◌++◌, ap, ◌∙◌, sym, arith}
+-- A text of the numbers of a range, and of one further.
+use Rattle.std.proofs.Common.{◌≡◌, ℕ, suc, ◌+◌, ◌-◌, ◌≤◌, List, [], ◌∷◌, ◌++◌, ap, ◌∙◌, sym, arith}
 use Rattle.std.specs.List.{flat_map, range_with_len}
 use Rattle.std.proofs.lemmas.List.{flat_map_more}
-
-range_more : (a n : ℕ) → range_with_len a (suc n) ≡ range_with_len a n ++ ((a + n) ∷ [])
-range_more a zero = ap (λ z. z ∷ []) (omega arith)
-range_more a (suc n) = ap (λ z. a ∷ z) (range_more (a + 1) n ∙ ap (λ z. range_with_len (a + 1) n ++ (z ∷ [])) (omega arith))
+use Rattle.shared_types.proofs.Ranges.{range_more}
 
 pub next_of_range : (f : ℕ → List ℕ) (bs : List ℕ) (a n : ℕ) → a ≤ n
     → (bs ++ flat_map f (range_with_len a (n - a))) ++ f n ≡ bs ++ flat_map f (range_with_len a (n + 1 - a))

@@ -1,6 +1,6 @@
 use Rattle.std.proofs.Common.{◌+◌}
 use Rattle.report_view.specs.Trace.{step_line}
-use Rattle.report_view.proofs.Numbered.{one_line_more}
+use Rattle.shared_types.proofs.Ranges.{one_line_more}
 use Rattle.report_view.proofs.trace.put_steps.Goals as goal
 
 pub loop-number-preserved : goal.loop-number-preserved
