@@ -34,7 +34,7 @@ pub record HeldOnly (s t : Replay FlatState) (page h : ℕ) (hold : Option Mode)
   pub cursor : t.cursor ≡ s.cursor
   pub counts : t.flat.counts ≡ s.flat.counts
 
-plainly : (s : Replay FlatState) (page h : ℕ) (hold : Option Mode) → HeldOnly s (with_page_held h page hold s) page h hold
+pub plainly : (s : Replay FlatState) (page h : ℕ) (hold : Option Mode) → HeldOnly s (with_page_held h page hold s) page h hold
 plainly s page h hold = record { memory = refl; devices = refl; holders = refl; cursor = refl; counts = refl }
 
 -- the store with other bytes of one page
@@ -189,7 +189,7 @@ yield_answers b r new store page left ended is yields h s a =
     subst (λ u. ended ≡ ends_reservation (board u) s h page) (sym is.0) (yields h s a).answer
 
 -- the unit of a memory of so many pages
-one_unit : (n u v : ℕ) → suc n * u ≡ suc n * v → u ≡ v
+pub one_unit : (n u v : ℕ) → suc n * u ≡ suc n * v → u ≡ v
 one_unit n u v e =
     let some : zero < suc n = omega arith in
     sym (mul-div_cancel_left u some) ∙ ap (λ k. k / suc n) e ∙ mul-div_cancel_left v some
