@@ -3,7 +3,7 @@ use Rattle.std.proofs.Common.{refl}
 use Rattle.crew_parts.specs.Boards.{board_of, spent, terms_of}
 use Rattle.crew_parts.specs.Laws.{StatesAre, FirstBoards, BoardsAreSound, NothingIsChanged, LeftIsFree, TurnsReach, MovesAreTold, PartsStay, RunsGoOn}
 use Rattle.crew_parts.specs.Laws.{BoardsSet}
-use Rattle.crew_parts.specs.Laws.{PartsUnmoved, LegsAdvance, PartsHaveUnit, PartsAreNumbered}
+use Rattle.crew_parts.specs.Laws.{OrdersAreExact, PartsUnmoved, LegsAdvance, PartsHaveUnit, PartsAreNumbered}
 use Rattle.turn_laws.specs.Reached.{Turned}
 use Rattle.turn_laws.specs.Supplies.{followed_by}
 use Rattle.turn_laws.proofs.Legs.{reached_are_crew}
@@ -12,6 +12,7 @@ use Rattle.crew_parts.proofs.Setting.{closing_set, favour_set, first_board, firs
 use Rattle.crew_parts.proofs.Turned.{part_counts, part_fits, reached_with, whatever_left}
 use Rattle.crew_parts.proofs.Advancing.{leg_advances, part_unmoved}
 use Rattle.crew_parts.proofs.Frames.{part_unit}
+use Rattle.crew_parts.proofs.Holding.{told_exactly}
 use Rattle.crew_parts.proofs.OtherParts.{others_stay, runs_go_on}
 
 pub states_are : StatesAre
@@ -43,6 +44,9 @@ turns_reach p h n r given c turned is none =
 
 pub moves_are_told : MovesAreTold
 moves_are_told p h n r is = (part_counts p h n r is, λ left. part_fits p h n r left is)
+
+pub orders_are_exact : OrdersAreExact
+orders_are_exact = told_exactly
 
 pub parts_stay : PartsStay
 parts_stay p q h n g r given turned is counts terms there other =

@@ -2,8 +2,10 @@ mod Numbers
 mod States
 mod Reaching
 mod Setting
-mod Turned
+pub mod Turned
 mod Frames
 mod OtherParts
 mod Advancing
+mod Exact
+mod Holding
 pub mod Laws

@@ -1,5 +1,5 @@
 -- A turn of one hart leaves the parts of the others.
-use Rattle.std.proofs.Common.{◌≡◌, ◌≢◌, ℕ, ◌<◌, ◌≤◌, List, Option, Some, slice_index, refl, sym, ap, ap₂, ◌∙◌, ◌*◌, ◌/◌, length}
+use Rattle.std.proofs.Common.{◌≡◌, ◌≢◌, ℕ, ◌<◌, ◌≤◌, List, Option, Some, slice_index, refl, sym, ap, ap₂, ◌∙◌}
 use Rattle.rv_words.specs.declared.shared.Mode.{Mode}
 use Rattle.rv_hart.specs.State.{Hart}
 use Rattle.elf_image.specs.Image.{IsWhole}

@@ -64,10 +64,10 @@ spent_then given left =
     (append-nil given.answers) (append-nil given.times)
     ∙ ap (λ k. record { answers = given.answers ++ left.answers; takes = k; times = given.times ++ left.times }) (omega arith)
 
-first_spent : (left : Supply) → followed_by spent left ≡ left
+pub first_spent : (left : Supply) → followed_by spent left ≡ left
 first_spent left = ap (λ k. record { answers = left.answers; takes = k; times = left.times }) (zero-add left.takes)
 
-then_spent : (given : Supply) → followed_by given spent ≡ given
+pub then_spent : (given : Supply) → followed_by given spent ≡ given
 then_spent given =
     ap₂ (λ answers times. record { answers = answers; takes = given.takes + 0; times = times }) (append-nil given.answers) (append-nil given.times)
     ∙ ap (λ k. record { answers = given.answers; takes = k; times = given.times }) (omega arith)

@@ -24,7 +24,7 @@ use Rattle.replay_model.specs.Journal.{order_of}
 use Rattle.replay_model.specs.State.{Replay, IsCrewState, start}
 use Rattle.crew_recording.specs.Recording.{with_ends}
 use Rattle.turn_model.specs.Recordable.{Recordable, board_machine}
-use Rattle.turn_model.specs.Board.{Board, Order, Supply, Terms, log_with, log_of}
+use Rattle.turn_model.specs.Board.{Board, Order, Go, Supply, Terms, log_with, log_of}
 use Rattle.turn_laws.specs.Reached.{Reached}
 
 -- the flat machine that is recorded: so many bytes are owned together as recordings' terms say
@@ -108,6 +108,14 @@ IsReached p = (given : Supply) × Reached the_machine (terms_of p) p.harts (flat
 abbrev pub told_to : Plain → ℕ → Option Order
 told_to p h = unwrap_or (slice_get p.orders h) None
 
+-- the count up to which a hart may move before its next turn
+abbrev pub until_by : ℕ → Option Order → ℕ
+until_by count (Some (Go until)) = until
+until_by count order = count
+
+abbrev pub until_of : Plain → ℕ → ℕ
+until_of p h = until_by (slice_index p.counts h) (told_to p h)
+
 -- each hart has its number
 abbrev pub AreNumbered : FlatState → Type 0
 AreNumbered s = (h : ℕ) (x : Hart) → slice_get s.harts h ≡ Some x → x.csrs.hart ≡ h
@@ -119,7 +127,10 @@ pub record IsBoardOf (p : Plain) : Type 0 where
   pub few : p.harts ≤ 8
   pub favours : p.favoured < p.harts
   pub streams : length p.streams ≡ p.harts
+  pub wants : length p.wants ≡ p.harts
+  pub orders : length p.orders ≡ p.harts
   pub counts : p.counts ≡ (state_of p).flat.counts
+  pub ahead : (h : ℕ) → h < p.harts → slice_index p.counts h ≤ until_of p h
   pub crew : IsCrewState the_board (state_of p)
   pub numbered : AreNumbered (state_of p).flat
   pub reached : IsReached p

@@ -8,12 +8,14 @@ use Rattle.replay_model.specs.State.{IsCrewState}
 use Rattle.run_model.specs.Run.{Run}
 use Rattle.run_model.specs.Legs.{KeepsPages, MakesLeg}
 use Rattle.run_model.specs.declared.asked.Pause.{Pause}
-use Rattle.turn_model.specs.Board.{Board, Supply, board_at_start}
+use Rattle.turn_model.specs.Board.{Board, Order, Supply, board_at_start}
 use Rattle.turn_model.specs.Lists.{whole_leg}
 use Rattle.turn_model.specs.Turn.{turn}
 use Rattle.turn_laws.specs.Reached.{Reached}
 use Rattle.turn_laws.specs.Supplies.{followed_by}
-use Rattle.crew_parts.specs.Boards.{Plain, World, IsReached, AreNumbered, the_board, the_machine, board_of, plain_at_start, spent, state_of, terms_of}
+use Rattle.crew_parts.specs.Boards.{Plain, World, IsBoardOf, IsReached, AreNumbered, the_board, the_machine, board_of, plain_at_start, spent, state_of}
+use Rattle.crew_parts.specs.Boards.{terms_of, told_to}
+use Rattle.crew_parts.specs.Orders.{IsExact}
 use Rattle.crew_parts.specs.Parts.{IsPart, IsPartAdvanced, KeepsParts, number_of, part_of, until_of}
 use Rattle.crew_parts.specs.Turns.{SameTerms, GivesNoMore}
 
@@ -102,6 +104,11 @@ PartsStay = (p q : Plain) (h n g : ℕ) (r : Run) (given : Supply) → IsTurnOf 
 abbrev pub RunsGoOn : Type 0
 RunsGoOn = (p q : Plain) (h n g : ℕ) (r x : Run) (given : Supply) → IsTurnOf p h n r → TurnsTo p q h n given → g < p.harts → g ≢ h
     → IsPart p g x → IsPart q g x
+
+-- What a turn tells its hart is exact.
+abbrev pub OrdersAreExact : Type 0
+OrdersAreExact = (p q : Plain) (h n : ℕ) (r : Run) (given : Supply) (order : Order) → IsBoardOf p → h < p.harts → IsPartAdvanced p h n r
+    → TurnsTo p q h n given → told_to q h ≡ Some order → IsExact (terms_of p) (board_of q spent) h order
 
 -- No part speaks of the favoured hart, of the cause or of the room.
 abbrev pub NothingIsChanged : Type 0

@@ -13,16 +13,8 @@ use Rattle.replay_model.specs.State.{Replay}
 use Rattle.run_model.specs.Run.{Run}
 use Rattle.run_model.specs.Agreement.{Agrees}
 use Rattle.run_model.specs.Legs.{Runs, DifferFor}
-use Rattle.turn_model.specs.Board.{Order, Go}
-use Rattle.crew_parts.specs.Boards.{Plain, World, the_board, state_of, told_to}
-
--- the count up to which a hart may move before its next turn
-abbrev pub until_by : ℕ → Option Order → ℕ
-until_by count (Some (Go until)) = until
-until_by count order = count
-
-abbrev pub until_of : Plain → ℕ → ℕ
-until_of p h = until_by (slice_index p.counts h) (told_to p h)
+pub use Rattle.crew_parts.specs.Boards.{until_by, until_of}
+use Rattle.crew_parts.specs.Boards.{Plain, World, the_board, state_of}
 
 -- What a hart has of the board: its state and count; of each page what it holds, and then the memory's bytes; its entries so far; the
 -- count up to which it may move; and the terms.

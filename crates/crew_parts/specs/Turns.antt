@@ -8,7 +8,8 @@ use Rattle.run_model.specs.Run.{Run}
 use Rattle.turn_model.specs.Board.{Order, Supply}
 use Rattle.turn_model.specs.Turn.{turn}
 use Rattle.turn_laws.specs.Supplies.{followed_by}
-use Rattle.crew_parts.specs.Boards.{Plain, World, the_machine, board_of, terms_of, told_to}
+use Rattle.crew_parts.specs.Boards.{Plain, World, the_machine, board_of, spent, state_of, terms_of, told_to}
+use Rattle.crew_parts.specs.Orders.{IsExact}
 use Rattle.crew_parts.specs.Parts.{IsPart, part_of}
 
 -- so many bytes more were taken
@@ -40,6 +41,12 @@ IsSpent left = (left.answers ≡ []) × (left.takes ≡ 0)
 abbrev pub GivesNoMore : Plain → Supply → Type 0
 GivesNoMore p left = p.closed ≡ Some Fault → IsSpent left
 
+-- the bytes that the console took are those that were sent
+abbrev pub SentIsTaken : Plain → Plain → Type 0
+SentIsTaken old new = IsTrue new.now.console.tells_taken
+    → (bytes : List ℕ) × (new.now.console.taken ≡ old.now.console.taken ++ bytes)
+    × ((state_of new).flat.devices.sent ≡ (state_of old).flat.devices.sent ++ bytes)
+
 -- the terms are as they were
 pub record SameTerms (old new : Plain) : Type 0 where
   pub image : new.image ≡ old.image
@@ -49,8 +56,8 @@ pub record SameTerms (old new : Plain) : Type 0 where
   pub first : new.first ≡ old.first
 
 -- A turn of hart h was had: with the moves that its run made since its last turn it is the model's, whatever console and clock give
--- later; the run is again the hart's part, the parts of the other harts and the terms are as they were, and a run that
--- was another hart's part still is.
+-- later; the hart is told to rest or to hold exactly where it has to; the run is again the hart's part, the parts of the other harts and
+-- the terms are as they were, and a run that was another hart's part still is.
 pub record HasTurn (old new : Plain) (h : ℕ) (before after : Run) (order : Order) : Type 0 where
   pub moves : ℕ
   pub moved : before.count ≡ slice_index old.counts h + moves
@@ -59,7 +66,9 @@ pub record HasTurn (old new : Plain) (h : ℕ) (before after : Run) (order : Ord
   pub turned : (left : Supply) → GivesNoMore new left
       → turn the_machine (terms_of old) h moves (board_of old (followed_by given left)) ≡ Some (board_of new left)
   pub faults : CountsFaults old.closed new.closed old.now.console.faults new.now.console.faults
+  pub sent : SentIsTaken old new
   pub told : told_to new h ≡ Some order
+  pub exact : IsExact (terms_of old) (board_of new spent) h order
   pub part : IsPart new h after
   pub others : (g : ℕ) → g < old.harts → g ≢ h → part_of new g ≡ part_of old g
   pub runs : (g : ℕ) (x : Run) → g < old.harts → g ≢ h → IsPart old g x → IsPart new g x

@@ -3,7 +3,7 @@
 #![tactic(auto)]
 
 ghost use Rattle.crew_parts.specs.Laws.{StatesAre, FirstBoards, BoardsAreSound, NothingIsChanged, LeftIsFree};
-ghost use Rattle.crew_parts.specs.Laws.{TurnsReach, MovesAreTold, PartsStay, RunsGoOn, BoardsSet};
+ghost use Rattle.crew_parts.specs.Laws.{TurnsReach, MovesAreTold, OrdersAreExact, PartsStay, RunsGoOn, BoardsSet};
 ghost use Rattle.crew_parts.specs.Laws.{PartsUnmoved, LegsAdvance, PartsHaveUnit, PartsAreNumbered};
 
 /// The state that plain data stand for, which nothing stores, is the one to which the turns led. Before any turn it is
@@ -20,11 +20,12 @@ pub fn boards_are_sound()
 {}
 
 /// A turn of which the answers are known is a turn whatever is answered later, and leads to a board that turns led to;
-/// its moves are those by which the part was advanced.
+/// its moves are those by which the part was advanced, and what it tells the hart is exact.
 pub fn turns_are_known()
     ensures left { LeftIsFree }
     ensures reach { TurnsReach }
     ensures moves { MovesAreTold }
+    ensures orders { OrdersAreExact }
 {}
 
 /// A turn of one hart leaves the parts of all others, and the runs that are these parts; what only names the favoured hart or closes the board leaves

@@ -9,3 +9,6 @@ returns-clause-reach c = laws.turns_reach
 
 pub returns-clause-moves : goal.returns-clause-moves
 returns-clause-moves c = laws.moves_are_told
+
+pub returns-clause-orders : goal.returns-clause-orders
+returns-clause-orders c = laws.orders_are_exact
