@@ -23,7 +23,7 @@ use Rattle.crew_core.specs.declared.order.Order.TheVariants.{Rest}
 use Rattle.crew_core.specs.Standing.{Stands, terms_of}
 use Rattle.crew_core.specs.Does.{Does, Enters, times_taken, IsAsked, GivesNoMore}
 use Rattle.turn_laws.specs.Supplies.{followed_by}
-use Rattle.crew_core.proofs.Stepping.{stands_closed, stands_outside}
+use Rattle.crew_core.proofs.Stepping.{stands_closed, stands_favoured, stands_outside}
 use Rattle.crew_core.proofs.Giving.{console_is, console_fails, clock_is}
 use Rattle.crew_core.proofs.Claiming.{streams_size}
 
@@ -41,42 +41,6 @@ stopped c new r h b st a stop is = subst (λ z. Does c z r h (Some Rest) (behind
   agrees = a;
   terms = refl;
 })
-
-stands_favoured : (c : Crew) (b : Board FlatState) (f : ℕ) → f < c.harts → Stands c b → Stands (record c { favoured = f }) (record b { favoured = f })
-stands_favoured c b f l st = record {
-  unit_is = st.unit_is;
-  some = st.some;
-  backs = st.backs;
-  holders = st.holders;
-  numbers = st.numbers;
-  wants = st.wants;
-  waits = st.waits;
-  numbered = st.numbered;
-  ordinal = st.ordinal;
-  streams = st.streams;
-  counts = st.counts;
-  polls = st.polls;
-  orders = st.orders;
-  near = st.near;
-  size = st.size;
-  favoured = refl;
-  closed = st.closed;
-  harts = st.harts;
-  board = st.board;
-  crew = st.crew;
-  table = st.table;
-  numbers_size = st.numbers_size;
-  yields_size = st.yields_size;
-  wants_inside = st.wants_inside;
-  limit = st.limit;
-  wants_size = st.wants_size;
-  device_harts = st.device_harts;
-  few = st.few;
-  favours = l;
-  most_bytes = st.most_bytes;
-  numbers_fit = st.numbers_fit;
-  ordinal_fits = st.ordinal_fits;
-}
 
 running : (c : Crew) (h : ℕ) (b : Board FlatState) → Stands c b → is_some c.backing.devices.devices.stop ≡ false → behind_touch the_machine (terms_of c) h b
     ≡ On (if h == b.favoured then passes_favour h b else b)

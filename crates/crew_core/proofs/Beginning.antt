@@ -1,8 +1,10 @@
 -- The crew before any turn.
-use Rattle.std.proofs.Common.{◌≡◌, ℕ, zero, suc, ◌+◌, ◌*◌, ◌/◌, ◌≤◌, List, [], ◌∷◌, length, replicate, Option, Some, None}
+use Rattle.std.proofs.Common.{vec_capacity, ◌≡◌, ℕ, zero, suc, ◌+◌, ◌*◌, ◌/◌, ◌≤◌, List, [], ◌∷◌, length, replicate, Option, Some, None}
 use Rattle.std.proofs.Common.{slice_get, slice_index, unwrap_or, refl, sym, ap, ◌∙◌, subst, arith}
 use Rattle.std.proofs.lemmas.List.{length-replicate}
 use Rattle.std.proofs.lemmas.Option.{none-some, same_Some}
+use Rattle.rv_words.specs.Limits.{page_bytes}
+use Rattle.board_backing.specs.Ends.{HasPlaces}
 use Rattle.elf_image.specs.Image.{Image, IsWhole}
 use Rattle.log_entry.specs.declared.log.Entry.{Entry}
 use Rattle.log_entry.specs.declared.log.Log.{Log}
@@ -61,8 +63,9 @@ pub begins : (c : Crew) (image : Image) (outside : Supply) → IsWhole image →
     → c.backing ≡ backing_at_start image c.harts → BacksFirst image c.harts c.backing
     → c.directory ≡ directory_at_start c.harts c.pages → c.seats ≡ replicate c.harts no_seat → c.ordinal ≡ 0 → c.size ≡ 49 + 13 * c.harts → c.favoured ≡ 0
     → c.closed ≡ None
+    → HasPlaces c.ends c.harts (length image.bytes) → c.streams.items ≡ [] → c.harts ≤ vec_capacity c.streams
     → Stands c (board_at_start (terms_of c) c.harts (flat_at_start image c.harts) outside)
-begins c image outside whole least most log pages backing backs directory seats ordinal size favoured closed =
+begins c image outside whole least most log pages backing backs directory seats ordinal size favoured closed places empty room =
     let b = board_at_start (terms_of c) c.harts (flat_at_start image c.harts) outside in
     let streams : length (replicate c.harts (let none : List Entry = [] in none)) ≡ c.harts = length-replicate c.harts [] in
     let number : c.pages ≡ length image.bytes / image.unit = pages
@@ -100,6 +103,7 @@ begins c image outside whole least most log pages backing backs directory seats 
           ∙ ap (λ ws. unwrap_or (slice_get ws g) None) (sym (ap (λ (d : Directory). d.wants) directory)) ∙ w));
       limit = log;
       wants_size = ap (λ (d : Directory). length d.wants) directory ∙ length-replicate c.harts None;
+      ends = (subst (HasPlaces c.ends c.harts) (whole.size ∙ ap (λ p. page_bytes * p) (sym pages)) places, empty, room);
       device_harts = ap (λ (z : Backing). z.devices.devices.harts) backing;
       few = most;
       favours = omega (arith, favoured, least);

@@ -1,24 +1,21 @@
 -- A board and its harts' runs before any turn.
 use Rattle.std.proofs.Common.{◌≡◌, ◌⊎◌, inl, inr, ℕ, zero, suc, ◌+◌, ◌/◌, ◌<◌, ◌≤◌, ◌++◌, List, [], ◌∷◌, map, length, replicate, Option, Some, None}
-use Rattle.std.proofs.Common.{slice_get, refl, sym, ap, ap₂, ◌∙◌}
+use Rattle.std.proofs.Common.{slice_get, slice_index, unwrap_or, refl, sym, ap, ap₂, ◌∙◌}
 use Rattle.std.proofs.Common.{subst, arith, true≢false}
 use Rattle.std.proofs.Math.Nat.{mul-div_cancel_left}
-use Rattle.std.proofs.lemmas.List.{map-append, length-map, length-replicate, length_push}
+use Rattle.std.proofs.lemmas.List.{map-append, length-map, length-replicate}
 use Rattle.std.proofs.lemmas.Option.{none-some, same_Some}
 use Rattle.shared_types.proofs.Lists.{map_at}
-use Rattle.rv_words.specs.Limits.{page_bytes}
 use Rattle.orders_law.specs.Orders.{below}
-use Rattle.elf_image.specs.Image.{Image, IsWhole, start_digest}
+use Rattle.elf_image.specs.Image.{Image, IsWhole}
 use Rattle.flat_machine.specs.State.{FlatState, flat_at_start}
 use Rattle.order_rules.specs.Holders.{nobody}
-use Rattle.replay_model.specs.State.{Replay}
 use Rattle.run_model.specs.Run.{Run, run_at_start}
 use Rattle.run_model.specs.Agreement.{Agrees}
 use Rattle.run_model.proofs.Laws.{start_agrees}
-use Rattle.turn_model.specs.Board.{Board, Terms, board_at_start}
-use Rattle.crew_parts.specs.Boards.{Plain, World, IsBoardOf, IsReached, board_of, plain_at_start, spent, state_of}
-use Rattle.crew_parts.specs.Boards as boards
-use Rattle.crew_parts.specs.Parts.{AreParts}
+use Rattle.turn_model.specs.Board.{Board, Order, Terms, board_at_start}
+use Rattle.crew_parts.specs.Boards.{Plain, World, plain_at_start, spent, state_of}
+use Rattle.crew_parts.specs.Parts.{AreParts, until_by}
 use Rattle.crew_parts.proofs.Laws.{boards_are_sound, first_boards}
 use Rattle.crew_core.specs.declared.crew.Crew.{Crew}
 use Rattle.crew_core.specs.Calls.{StandsAtStart, terms_at}
@@ -31,6 +28,7 @@ use Rattle.std.proofs.lemmas.List.Elements.{All-nil}
 use Rattle.crew_core.proofs.Seated.{lanes_size}
 use Rattle.crew_core.specs.Standing.{Stands, terms_of}
 use Rattle.crew_core.proofs.BoardTurns.{counts_are}
+use Rattle.orders_law.proofs.Below.{length_below}
 
 pub mapped_more : {X : Type 0} (f : ℕ → X) (n : ℕ) (xs : List X) (x : X) → xs ≡ map f (below n) → x ≡ f n → xs ++ x ∷ [] ≡ map f (below (n + 1))
 mapped_more f n xs x is here =
@@ -42,10 +40,6 @@ at_last [] v zero k is = inr (refl, sym (same_Some _ _ is))
 at_last [] v (suc i) k is = absurd (none-some _ is)
 at_last (x ∷ xs) v zero k is = inl is
 at_last (x ∷ xs) v (suc i) k is = elim (at_last xs v i k is) [ inl at ↦ inl at | inr last ↦ inr (ap suc last.0, last.1) ]
-
-length_below : (n : ℕ) → length (below n) ≡ n
-length_below zero = refl
-length_below (suc n) = let e = length_push (below n) n in let l = length_below n in omega (arith, e, l)
 
 -- each of the numbers below n stands at its place
 below_is : (n h k : ℕ) → slice_get (below n) h ≡ Some k → (k ≡ h) × (h < n)
@@ -79,6 +73,13 @@ first_parts image harts limit log_limit world runs whole are = record {
     table : (state_of p).holders ≡ nobody (length image.bytes / image.unit) harts
     table = ap (λ (b : Board FlatState). b.at.holders) (first_boards image harts limit log_limit world spent).0
         ∙ ap₂ nobody (sym units) (length-replicate harts [])
+
+-- nobody was told anything
+pub told_nothing : (n h : ℕ) (o : Option Order) → o ≡ None → unwrap_or (slice_get (replicate n o) h) None ≡ None
+told_nothing zero zero o none = refl
+told_nothing zero (suc h) o none = refl
+told_nothing (suc n) zero o none = none
+told_nothing (suc n) (suc h) o none = told_nothing n h o none
 
 -- a crew before any turn shows the plain data before any turn
 pub start_shows : (c : Crew) (journal turns : List (ℕ × ℕ)) (image shown_image : Image) (harts limit log_limit : ℕ) (world first : World)
@@ -143,7 +144,12 @@ first_keeps c spare journal turns image harts limit log_limit world whole terms 
         few = few;
         favours = least;
         streams = length-replicate harts [];
+        wants = length-replicate harts None;
+        orders = length-replicate harts None;
         counts = sym (ap (λ (b : Board FlatState). b.at.flat.counts) first.0);
+        ahead = λ h l.
+            let count = slice_index (replicate harts 0) h in
+            subst (λ o. count ≤ until_by count o) (sym (told_nothing harts h None refl)) (omega arith);
         crew = sound.crew;
         numbered = sound.numbered;
         reached = first.1;

@@ -1,15 +1,13 @@
 -- A turn of the crew, on the plain data that its board is seen as.
-use Rattle.std.proofs.Common.{◌≡◌, ◌≢◌, inl, inr, ℕ, zero, suc, ◌+◌, ◌<◌, ◌≤◌, ◌==◌, not, false, Bool, List, map, length, Option, Some, None, slice_get}
-use Rattle.std.proofs.Common.{slice_index, unwrap_or}
+use Rattle.std.proofs.Common.{◌≡◌, ◌≢◌, inl, inr, ℕ, zero, suc, ◌+◌, ◌<◌, ◌≤◌, ◌++◌, ◌==◌, not, false, Bool, List, map, length, Option, Some, None}
+use Rattle.std.proofs.Common.{slice_get, slice_index, unwrap_or}
 use Rattle.std.proofs.Common.{refl, sym, ap, ap₂, ◌∙◌, subst, arith, true≢false}
 use Rattle.std.proofs.lemmas.List.{length-map}
 use Rattle.std.proofs.lemmas.Option.{get_or_from_slice_get, slice_get-get_or, slice_get_past, slice_get_within}
+use Rattle.std.proofs.lemmas.Bool.{cases_eq}
 use Rattle.std.proofs.lemmas.Bool.Decides.{leb_tells}
 use Rattle.shared_types.proofs.Lists.{get_map, same_list}
-use Rattle.rv_words.specs.declared.shared.Cause.{Cause}
-use Rattle.rv_words.specs.declared.shared.Mode.{Mode}
 use Rattle.elf_image.specs.Image.{Image, IsWhole, start_digest}
-use Rattle.log_entry.specs.declared.log.Entry.{Entry}
 use Rattle.flat_machine.specs.State.{FlatState, flat_at_start}
 use Rattle.replay_model.specs.State.{Replay}
 use Rattle.run_model.specs.Run.{Run}
@@ -18,22 +16,25 @@ use Rattle.crew_recording.proofs.Items.{by_item}
 use Rattle.log_entry.specs.Waits.{WaitList}
 use Rattle.replay_model.specs.Items.{Move}
 use Rattle.run_model.specs.Legs.{Runs}
-use Rattle.turn_model.specs.Board.{Board, Order, Go, Hold, Rest, Supply, Terms}
+use Rattle.turn_model.specs.Board.{Board, Order, Supply, Terms}
 use Rattle.turn_model.specs.Laws.{IsPagedBoard}
 use Rattle.turn_model.specs.Turn.{turn, with_row}
 use Rattle.turn_laws.specs.Reached.{Reached}
 use Rattle.turn_laws.specs.Supplies.{followed_by}
 use Rattle.crew_parts.specs.Boards.{Plain, World, IsBoardOf, IsReached, the_board, the_machine, board_of, spent, state_of, told_to}
 use Rattle.crew_parts.specs.Boards as boards
-use Rattle.crew_parts.specs.Parts.{IsLed, IsPart, IsPartAdvanced, number_of, part_of, until_by, until_of}
-use Rattle.crew_parts.specs.Turns.{CountsFaults, Gives, HasTurn, SameTerms}
+use Rattle.crew_parts.specs.Parts.{IsLed, IsPart, IsPartAdvanced, Part, number_of, part_of, until_by, until_of}
+use Rattle.crew_parts.specs.Orders.{IsExact}
+use Rattle.crew_parts.specs.Turns.{CountsFaults, Gives, HasTurn, SameTerms, SentIsTaken}
 use Rattle.crew_parts.specs.Laws.{IsTurnOf, TurnsTo}
-use Rattle.crew_parts.proofs.Laws.{boards_are_sound, left_is_free, moves_are_told, parts_stay, runs_stay_parts, states_are, turns_reach}
+use Rattle.crew_parts.proofs.Laws.{boards_are_sound, left_is_free, moves_are_told, orders_are_exact, parts_stay, runs_stay_parts, states_are, turns_reach}
 use Rattle.crew_core.specs.declared.seat.Seat.{Seat}
 use Rattle.crew_core.specs.declared.crew.Crew.{Crew}
 use Rattle.crew_core.specs.declared.turned.Turned.{Turned}
 use Rattle.outside.specs.Seen.{ToldBefore}
 use Rattle.std.specs.Prelude.{All}
+use Rattle.device_board.specs.State.{Devices}
+use Rattle.crew_core.specs.Does.{TakesSent}
 use Rattle.crew_core.specs.Kept.{IsSpare, Keeps, plain_of}
 use Rattle.crew_core.specs.Lanes.{Rows, row_where}
 use Rattle.crew_core.specs.Orders.{told, told_of}
@@ -41,7 +42,7 @@ use Rattle.crew_core.specs.Seats.{reach, seat_of}
 use Rattle.crew_core.specs.Standing.{Stands, terms_of}
 use Rattle.crew_core.specs.Turns.{ComesTo, TurnDoes}
 use Rattle.crew_core.proofs.Machine.{faithful}
-use Rattle.crew_core.proofs.Sets.{supply_stands}
+use Rattle.crew_core.proofs.Stepping.{stands_outside}
 use Rattle.crew_core.proofs.Seated.{seat_there}
 
 pub counts_are : (c : Crew) (b : Board FlatState) → Stands c b → map (λ (s : Seat). s.count) c.seats ≡ b.at.flat.counts
@@ -75,6 +76,29 @@ shown c b journal turns image first now abandoned prepared given st from same_jo
     board_alike (board_of p b.supply) b (states_are p given b from st.streams same_journal (counts_are c b st)) st.streams same_journal same_turns st.wants
     st.orders
     st.favoured st.closed refl
+
+-- the moves that a hart's turns committed are its seat's
+counts_at : (seats : List Seat) (h : ℕ) → h < length seats → slice_index (map (λ (s : Seat). s.count) seats) h ≡ (seat_of seats h).count
+counts_at seats h l =
+    get_or_from_slice_get (map (λ (s : Seat). s.count) seats) h (seat_of seats h).count 0
+    (get_map (λ (s : Seat). s.count) seats h (seat_of seats h) (seat_there seats h l))
+
+-- up to where a hart may move is what its seat says
+pub reaches : (c : Crew) (journal turns : List (ℕ × ℕ)) (image : Image) (first now : World) (abandoned prepared : Bool) (h : ℕ)
+    → h < length c.seats → until_of (plain_of c journal turns image first now abandoned prepared) h ≡ reach (seat_of c.seats h)
+reaches c journal turns image first now abandoned prepared h l =
+    let there = seat_there c.seats h l in
+    let order = ap (λ x. unwrap_or x None) (get_map (λ (s : Seat). told_of s.order) c.seats h (seat_of c.seats h) there) in
+    ap₂ until_by (counts_at c.seats h l) order
+
+-- how far a hart may move is of its part
+ahead_alike : (p q : Plain) (g : ℕ) → p.counts ≡ (state_of p).flat.counts → q.counts ≡ (state_of q).flat.counts → part_of q g ≡ part_of p g
+    → slice_index p.counts g ≤ until_of p g → slice_index q.counts g ≤ until_of q g
+ahead_alike p q g before after same ahead =
+    let count : slice_index q.counts g ≡ slice_index p.counts g =
+    ap (λ ks. slice_index ks g) after ∙ ap (λ (z : Part). z.count) same ∙ ap (λ ks. slice_index ks g) (sym before) in
+    let until : until_of q g ≡ until_of p g = ap (λ (z : Part). z.until) same in
+    omega (arith, count, until, ahead)
 
 -- what the board's plain data are after a turn
 pub record AfterTurn (p q : Plain) (d : Crew) (after : Run) (h n : ℕ) (t : Turned) (given : Supply) : Type 0 where
@@ -137,6 +161,8 @@ after_turn c d old_journal old_turns journal turns image first before now abando
     let again : IsReached q = (reached.0, subst (Reached the_machine (boards.terms_of q) d.harts (flat_at_start image d.harts) reached.0) (sym here) from) in
     let sound = boards_are_sound q whole again in
     let turned : TurnsTo p q h n given = made ∙ ap Some (sym here) in
+    let seated : h < length d.seats = (let k = stands.harts in omega (arith, inside, harts, k)) in
+    let still : (g : ℕ) → g < p.harts → g ≢ h → part_of q g ≡ part_of p g = λ g there other. parts_stay p q h n g r given of turned counts same there other in
     record {
       turned = turned;
       stands = stands;
@@ -148,30 +174,51 @@ after_turn c d old_journal old_turns journal turns image first before now abando
         few = stands.few;
         favours = stands.favours;
         streams = sound.streams;
+        wants = stands.wants_size;
+        orders = length-map d.seats (λ (s : Seat). told_of s.order) ∙ stands.harts;
         counts = counts;
+        ahead = λ g there. elim (cases_eq g h) [
+          | inl is ↦ subst (λ k. slice_index q.counts k ≤ until_of q k) (sym is)
+              (subst (λ k. slice_index q.counts h ≤ k) (sym (reaches d journal turns image first now abandoned false h seated))
+              (subst (λ k. k ≤ reach (seat_of d.seats h)) (sym (counts_at d.seats h seated)) comes.ahead))
+          | inr other ↦ ahead_alike p q g board.counts counts (still g (omega (arith, there, harts)) other) (board.ahead g (omega (arith, there, harts)))
+        ];
         crew = sound.crew;
         numbered = sound.numbered;
         reached = again;
       };
       part = subst (λ (z : Board FlatState). Agrees after h z.at) (sym here) comes.agrees;
-      others = λ g there other. parts_stay p q h n g r given of turned counts same there other;
+      others = still;
       runs = λ g x there other agrees. runs_stay_parts p q h n g r x given of turned there other agrees;
       told = told_seat d.seats h (let k = stands.harts in omega (arith, inside, harts, k)) (Some (told t.order)) (ap told_of comes.order);
     }
 
+-- the devices of plain data are those of a crew that stands for them
+sent_is_taken : (c d : Crew) (p q : Plain) → Stands c (board_of p spent) → Stands d (board_of q spent) → TakesSent c d p.now.console q.now.console
+    → SentIsTaken p q
+sent_is_taken c d p q before after sent = λ tells.
+    let taken = sent tells in (
+      taken.0,
+      taken.1,
+      ap (λ (x : Devices). x.sent) (sym after.backs.devices_are) ∙ taken.2 ∙ ap (λ (x : Devices). x.sent ++ taken.0) before.backs.devices_are,
+    )
+
 -- so a turn was had
 pub has_turn : (p q : Plain) (d : Crew) (before after : Run) (h n : ℕ) (t : Turned) (given : Supply) → AfterTurn p q d after h n t given
     → before.count ≡ slice_index p.counts h + n → Gives p.now q.now given
-    → CountsFaults p.closed q.closed p.now.console.faults q.now.console.faults → q.abandoned ≡ p.abandoned → q.prepared ≡ false
+    → CountsFaults p.closed q.closed p.now.console.faults q.now.console.faults → SentIsTaken p q
+    → IsExact (boards.terms_of p) (board_of q spent) h (told t.order) → q.abandoned ≡ p.abandoned → q.prepared ≡ false
     → HasTurn p q h before after (told t.order)
-has_turn p q d before after h n t given x moved gives faults abandoned used = record {
+has_turn p q d before after h n t given x moved gives faults sent exact abandoned used = record {
   moves = n;
   moved = moved;
   given = given;
   gives = gives;
   turned = left_is_free p q h n given x.turned;
   faults = faults;
+  sent = sent;
   told = x.told;
+  exact = exact;
   part = x.part;
   others = x.others;
   runs = x.runs;
@@ -195,16 +242,6 @@ hart_inside c b r h n st led =
     let k = paged.harts_size in
     omega (arith, l, k)
 
--- up to where a hart may move is what its seat says
-pub reaches : (c : Crew) (journal turns : List (ℕ × ℕ)) (image : Image) (first now : World) (abandoned prepared : Bool) (h : ℕ)
-    → h < length c.seats → until_of (plain_of c journal turns image first now abandoned prepared) h ≡ reach (seat_of c.seats h)
-reaches c journal turns image first now abandoned prepared h l =
-    let there = seat_there c.seats h l in
-    let order = ap (λ x. unwrap_or x None) (get_map (λ (s : Seat). told_of s.order) c.seats h (seat_of c.seats h) there) in
-    let count = get_or_from_slice_get (map (λ (s : Seat). s.count) c.seats) h (seat_of c.seats h).count 0
-    (get_map (λ (s : Seat). s.count) c.seats h (seat_of c.seats h) there) in
-    ap₂ until_by count order
-
 -- what the crew's turn did to the plain data
 pub turn_made : (c d : Crew) (spare : List WaitList) (old_journal old_turns : Rows ℕ) (journal turns : List (ℕ × ℕ)) (image : Image) (first before now : World)
     (abandoned prepared : Bool) (r after : Run) (h n : ℕ) (t : Turned)
@@ -219,7 +256,7 @@ turn_made c d spare old_journal old_turns journal turns image first before now a
     let p = plain_of c old_journal.rows old_turns.rows image first before abandoned prepared in
     let given = does.0 in
     let comes =
-    does.4 (board_of p (followed_by given spent)) n spent (supply_stands c (board_of p spent) (followed_by given spent) k.stands) part.led
+    does.4 (board_of p (followed_by given spent)) n spent (stands_outside c (board_of p spent) (followed_by given spent) k.stands) part.led
     (λ closed. (refl, refl)) refl in
     after_turn c d old_journal.rows old_turns.rows journal turns image first before now abandoned prepared r after h n t given k.board.whole k.terms k.board
     harts
@@ -232,7 +269,7 @@ pub turn_done : (c d : Crew) (spare more : List WaitList) (old_journal old_turns
     → IsPartAdvanced (plain_of c old_journal.rows old_turns.rows image first before abandoned prepared) (number_of r) n r → hart ≡ number_of r
     → d.harts ≡ c.harts → ToldBefore before.console.tells_answers now.console.tells_answers
     → ToldBefore before.console.tells_taken now.console.tells_taken → ToldBefore before.clock.tells now.clock.tells
-    → CountsFaults c.closed d.closed before.console.faults now.console.faults
+    → CountsFaults c.closed d.closed before.console.faults now.console.faults → TakesSent c d before.console now.console
     → TurnDoes c d r after hart t before.console now.console before.clock now.clock
     → journal.rows ≡ row_where (not (t.items == 0)) (hart, t.items) old_journal.rows → turns.rows ≡ row_where t.noted (hart, t.moves) old_turns.rows
     → All IsSpare more
@@ -242,7 +279,7 @@ pub turn_done : (c d : Crew) (spare more : List WaitList) (old_journal old_turns
     (number_of r) r after (told t.order)
     × (number_of after ≡ number_of r)
 turn_done c d spare more old_journal old_turns journal turns image first before now abandoned prepared r after hart n t k part hart_is harts answers taken times
-    faults does same_journal same_turns empty =
+    faults sent does same_journal same_turns empty =
     let p = plain_of c old_journal.rows old_turns.rows image first before abandoned prepared in
     let q = plain_of d journal.rows turns.rows image first now abandoned false in
     let here : IsPartAdvanced p hart n r = subst (λ h. IsPartAdvanced p h n r) (sym hart_is) part in
@@ -262,6 +299,7 @@ turn_done c d spare more old_journal old_turns journal turns image first before 
         ready = λ yes. absurd (true≢false (sym yes));
       },
       subst (λ h. HasTurn p q h r after (told t.order)) hart_is
-          (has_turn p q d r after hart n t does.0 x (moves_are_told p hart n r of).0 gives faults refl refl),
+          (has_turn p q d r after hart n t does.0 x (moves_are_told p hart n r of).0 gives faults (sent_is_taken c d p q k.stands x.stands sent)
+          (orders_are_exact p q hart n r does.0 (told t.order) k.board inside here x.turned x.told) refl refl),
       x.board.numbered hart after.hart x.part.hart ∙ hart_is,
     )

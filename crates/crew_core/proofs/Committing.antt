@@ -150,6 +150,7 @@ committed c new r h n b st led inside within favoured_inside is =
         wants_inside = λ g m w. by_want g m w (cases_eq g h);
         limit = st.limit;
         wants_size = length-set c.directory.wants h None ∙ st.wants_size;
+        ends = st.ends;
         device_harts = st.device_harts;
         few = st.few;
         favours = favoured_inside;

@@ -19,7 +19,7 @@ use Rattle.replay_model.specs.Items.{Makes, effect, past}
 use Rattle.replay_model.specs.State.{Replay}
 use Rattle.privilege_directory.specs.Directory as directories
 use Rattle.privilege_directory.specs.Directory.{yields_of}
-use Rattle.crew_core.specs.Standing.{yields_after, WaitsFollow}
+use Rattle.crew_core.specs.Standing.{WaitsFollow}
 use Rattle.std.proofs.lemmas.Option.{get_or_from_slice_get}
 use Rattle.run_model.specs.Run.{Run}
 use Rattle.run_model.specs.Agreement.{Agrees}
@@ -42,6 +42,7 @@ use Rattle.crew_core.specs.Standing.{Stands, AreNumbered, IsLatestPoll, log_so_f
 use Rattle.crew_core.proofs.Sizes.{size_more}
 use Rattle.crew_core.proofs.Waiting.{waits_more, numbered_more}
 use Rattle.crew_core.proofs.Seated.{lanes_set, lane_of, lanes_size, seat_there, seated, latest_more, orders_kept, near_set}
+use Rattle.order_rules.specs.Rules.{yields_after}
 
 -- the board once a hart made an entry that led there
 abbrev pub further : Board FlatState → ℕ → Entry → Replay FlatState → Board FlatState
@@ -163,6 +164,7 @@ stands_page c b h page e at backing directory st inside there of fits is only ba
       wants_inside = λ g n is. st.wants_inside g n (ap (λ ws. unwrap_or (slice_get ws g) None) (sym follows.wants) ∙ is);
       limit = st.limit;
       wants_size = ap length follows.wants ∙ st.wants_size;
+      ends = st.ends;
       device_harts = ap (λ (d : Devices). d.harts) (backs.devices_are ∙ only.devices ∙ sym st.backs.devices_are) ∙ st.device_harts;
       few = st.few;
       favours = st.favours;

@@ -24,7 +24,6 @@ use Rattle.flat_machine.specs.State.{FlatState}
 use Rattle.crew_parts.specs.Boards.{the_board}
 use Rattle.order_rules.specs.Holders.{Holders, row, held, with_held, IsCrew}
 use Rattle.replay_model.specs.Items.{effect}
-use Rattle.replay_model.specs.State.{Replay}
 use Rattle.order_rules.proofs.Follow.{held_here, held_beside}
 use Rattle.privilege_directory.specs.Directory as directories
 use Rattle.privilege_directory.specs.Directory.{gained, may_gain, clash_of, by_others, yields_of}
@@ -33,7 +32,7 @@ use Rattle.run_model.specs.Agreement.{Agrees, with_page_held}
 use Rattle.std.proofs.lemmas.Option.{slice_get_within}
 use Rattle.board_backing.specs.declared.backing.Backing.{Backing}
 use Rattle.board_backing.specs.Backing.{Leads, IsUnwritten}
-use Rattle.board_backing.proofs.Backs.{HeldOnly}
+use Rattle.board_backing.proofs.Backs.{HeldOnly, plainly}
 use Rattle.crew_parts.specs.Boards.{the_machine}
 use Rattle.turn_model.specs.Board.{Board, Terms, count, log_of}
 use Rattle.turn_model.specs.Steps.{gain_of}
@@ -86,9 +85,6 @@ unwritten holders page h mode there crew here less g w = elim (cases_eq g h) [
     most : (m : Mode) → strength (Some m) ≤ 2
     most Read = omega arith
     most Write = omega arith
-
-plainly : (s : Replay FlatState) (page h : ℕ) (hold : Option Mode) → HeldOnly s (with_page_held h page hold s) page h hold
-plainly s page h hold = record { memory = refl; devices = refl; holders = refl; cursor = refl; counts = refl }
 
 -- the mode is more than what the hart holds
 pub may_more : (d : directories.Directory) (h page : ℕ) (mode : Mode) → IsTrue (may_gain d h page mode)

@@ -1,6 +1,6 @@
 -- What keeps a hart from a page, and what follows.
-use Rattle.std.proofs.Common.{◌≡◌, ◌≢◌, ◌⊎◌, inl, inr, ℕ, zero, suc, ◌+◌, ◌<◌, ◌==◌, ◌&&◌, ◌++◌, nat_lt, nat_le, not, true, false}
-use Rattle.std.proofs.Common.{[], ◌∷◌, find, length, Option, Some, None, slice_get, slice_set, unwrap_or, refl, sym, ap, ap₂, ◌∙◌, subst}
+use Rattle.std.proofs.Common.{◌≡◌, ◌≢◌, ◌⊎◌, inl, inr, ℕ, suc, ◌+◌, ◌<◌, ◌==◌, ◌&&◌, nat_lt, nat_le, not, true, false}
+use Rattle.std.proofs.Common.{find, length, Option, Some, None, slice_get, slice_set, unwrap_or, refl, sym, ap, ap₂, ◌∙◌, subst}
 use Rattle.std.proofs.Common.{arith, if◌then◌else◌}
 use Rattle.std.specs.Prelude.{IsTrue, is_none}
 use Rattle.std.specs.List.{range_with_len}
@@ -35,16 +35,7 @@ use Rattle.crew_core.specs.Does.{Does, Enters, rivals, wants_against}
 use Rattle.crew_core.proofs.Claiming.{rank_is, streams_size}
 use Rattle.crew_core.proofs.Yielding.{page_held}
 use Rattle.crew_core.proofs.Stepping.{filled, made_with_room}
-
-range_more : (a n : ℕ) → range_with_len a (suc n) ≡ range_with_len a n ++ (a + n) ∷ []
-range_more a zero = ap (λ k. k ∷ []) (let e : a ≡ a + 0 = omega arith in e)
-range_more a (suc n) = ap (λ xs. a ∷ xs) (range_more (a + 1) n
-    ∙ ap (λ k. range_with_len (a + 1) n ++ k ∷ []) (let e : a + 1 + n ≡ a + suc n = omega arith in e))
-
-below_range : (n : ℕ) → below n ≡ range_with_len 0 n
-below_range zero = refl
-below_range (suc n) = ap (λ xs. xs ++ n ∷ []) (below_range n) ∙ ap (λ k. range_with_len 0 n ++ k ∷ []) (let e : n ≡ 0 + n = omega arith in e)
-    ∙ sym (range_more 0 n)
+use Rattle.orders_law.proofs.Below.{below_range}
 
 harts_are : (c : Crew) (b : Board FlatState) → Stands c b → range_with_len 0 c.harts ≡ harts b
 harts_are c b st = sym (below_range c.harts) ∙ ap below (sym (streams_size c b st))
@@ -93,6 +84,7 @@ stands_asked c b h page mode inside there st = record {
   wants_inside = λ g m w. by_want g m w (cases_eq g h);
   limit = st.limit;
   wants_size = length-set c.directory.wants h _ ∙ st.wants_size;
+  ends = st.ends;
   device_harts = st.device_harts;
   few = st.few;
   favours = st.favours;

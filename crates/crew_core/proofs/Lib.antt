@@ -24,7 +24,9 @@ pub mod StepOrder
 mod Rows
 mod WholeTurns
 mod SentBytes
+mod EndsOfTurns
 pub mod Sets
 pub mod BoardTurns
 pub mod BoardStarts
+mod BoardEnds
 pub mod Hands

@@ -100,6 +100,7 @@ stands_ordinal c b h e at backing after st inside of fits is backs unit device_h
       wants_inside = st.wants_inside;
       limit = st.limit;
       wants_size = st.wants_size;
+      ends = st.ends;
       device_harts = device_harts ∙ st.device_harts;
       few = st.few;
       favours = st.favours;

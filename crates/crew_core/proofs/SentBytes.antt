@@ -30,6 +30,7 @@ use Rattle.crew_core.specs.Does.{Does, IsCalm, TakesSent, bytes_sent}
 use Rattle.crew_parts.specs.Turns.{CountsFaults}
 use Rattle.crew_core.specs.Calls.{first_of}
 use Rattle.crew_core.proofs.Rows.{Keeps, gains_keep, first_keep}
+use Rattle.turn_model.proofs.BoardFacts.{none_given}
 
 abbrev Loaded : Type 0
 Loaded = Option (Devices × ℕ)
@@ -80,16 +81,6 @@ loads d e words.Stop inputs.Nothing w is = same_sent _ e _ w is
 loads d e words.Stop inputs.Empty w is = absurd (none-some _ is)
 loads d e words.Stop (inputs.Byte b) w is = absurd (none-some _ is)
 loads d e words.Stop (inputs.Time t) w is = absurd (none-some _ is)
-
-none_given : (word : DeviceWord) → bytes_given word None ≡ []
-none_given (words.Msip h) = refl
-none_given (words.CompareLow h) = refl
-none_given (words.CompareHigh h) = refl
-none_given words.TimeLow = refl
-none_given words.TimeHigh = refl
-none_given words.Rx = refl
-none_given words.Tx = refl
-none_given words.Stop = refl
 
 -- a store sends what it gives
 stores : (d : Devices) (word : DeviceWord) (v : ℕ) → (stored d word v).sent ≡ d.sent ++ bytes_given word (Some v)

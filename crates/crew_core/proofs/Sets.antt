@@ -12,8 +12,7 @@ use Rattle.shared_types.proofs.Lists.{get_map, map_at, set_here, set_there}
 use Rattle.rv_words.specs.declared.shared.Cause.{Cause}
 use Rattle.rv_words.specs.declared.shared.Cause.TheVariants.{Cut}
 use Rattle.flat_machine.specs.State.{FlatState}
-use Rattle.turn_model.specs.Board.{Board, Supply}
-use Rattle.board_backing.specs.Backing.{Backs}
+use Rattle.turn_model.specs.Board.{Board}
 use Rattle.crew_core.specs.declared.seat.Seat.{Seat}
 use Rattle.crew_core.specs.declared.crew.Crew.{Crew}
 use Rattle.crew_parts.specs.Boards.{the_board}
@@ -26,115 +25,8 @@ use Rattle.crew_core.specs.Kept.{IsReady, IsRoomier, IsSpare, Keeps, plain_of}
 use Rattle.crew_core.specs.Lanes.{Lane, Rows}
 use Rattle.crew_core.specs.Seats.{is_at, no_seat, seat_of, without_room, HasRoomFor}
 use Rattle.crew_core.specs.Orders.{told_of}
+use Rattle.crew_core.proofs.Stepping.{stands_closed, stands_favoured}
 use Rattle.crew_core.specs.Standing.{Stands, IsLatestPoll, IsNear, terms_of}
-
-pub favour_stands : (c : Crew) (b : Board FlatState) (r : ℕ) → Stands c b → r < c.harts → Stands (record c { favoured = r }) (record b { favoured = r })
-favour_stands c b r st inside = record {
-  unit_is = st.unit_is;
-  some = st.some;
-  backs = st.backs;
-  holders = st.holders;
-  numbers = st.numbers;
-  wants = st.wants;
-  waits = st.waits;
-  numbered = st.numbered;
-  ordinal = st.ordinal;
-  streams = st.streams;
-  counts = st.counts;
-  polls = st.polls;
-  orders = st.orders;
-  near = st.near;
-  size = st.size;
-  favoured = refl;
-  closed = st.closed;
-  harts = st.harts;
-  board = st.board;
-  crew = st.crew;
-  table = st.table;
-  numbers_size = st.numbers_size;
-  yields_size = st.yields_size;
-  wants_inside = st.wants_inside;
-  wants_size = st.wants_size;
-  device_harts = st.device_harts;
-  few = st.few;
-  favours = inside;
-  limit = st.limit;
-  most_bytes = st.most_bytes;
-  numbers_fit = st.numbers_fit;
-  ordinal_fits = st.ordinal_fits;
-}
-
-pub supply_stands : (c : Crew) (b : Board FlatState) (supply : Supply) → Stands c b → Stands c (record b { supply = supply })
-supply_stands c b supply st = record {
-  unit_is = st.unit_is;
-  some = st.some;
-  backs = st.backs;
-  holders = st.holders;
-  numbers = st.numbers;
-  wants = st.wants;
-  waits = st.waits;
-  numbered = st.numbered;
-  ordinal = st.ordinal;
-  streams = st.streams;
-  counts = st.counts;
-  polls = st.polls;
-  orders = st.orders;
-  near = st.near;
-  size = st.size;
-  favoured = st.favoured;
-  closed = st.closed;
-  harts = st.harts;
-  board = st.board;
-  crew = st.crew;
-  table = st.table;
-  numbers_size = st.numbers_size;
-  yields_size = st.yields_size;
-  wants_inside = st.wants_inside;
-  wants_size = st.wants_size;
-  device_harts = st.device_harts;
-  few = st.few;
-  favours = st.favours;
-  limit = st.limit;
-  most_bytes = st.most_bytes;
-  numbers_fit = st.numbers_fit;
-  ordinal_fits = st.ordinal_fits;
-}
-
-pub closed_stands : (c : Crew) (b : Board FlatState) (closed : Option Cause) → Stands c b → Stands (record c { closed = closed }) (record b { closed = closed })
-closed_stands c b closed st = record {
-  unit_is = st.unit_is;
-  some = st.some;
-  backs = st.backs;
-  holders = st.holders;
-  numbers = st.numbers;
-  wants = st.wants;
-  waits = st.waits;
-  numbered = st.numbered;
-  ordinal = st.ordinal;
-  streams = st.streams;
-  counts = st.counts;
-  polls = st.polls;
-  orders = st.orders;
-  near = st.near;
-  size = st.size;
-  favoured = st.favoured;
-  closed = refl;
-  harts = st.harts;
-  board = st.board;
-  crew = st.crew;
-  table = st.table;
-  numbers_size = st.numbers_size;
-  yields_size = st.yields_size;
-  wants_inside = st.wants_inside;
-  wants_size = st.wants_size;
-  device_harts = st.device_harts;
-  few = st.few;
-  favours = st.favours;
-  limit = st.limit;
-  most_bytes = st.most_bytes;
-  numbers_fit = st.numbers_fit;
-  ordinal_fits = st.ordinal_fits;
-}
 
 -- what doesn't look at the room
 fused : {X : Type 0} (f : Seat → X) → ((s : Seat) → f (without_room s) ≡ f s) → (seats : List Seat) → map f (map without_room seats) ≡ map f seats
@@ -178,6 +70,7 @@ roomier_stands c d b st more = subst (λ (z : Crew). Stands z b) (sym more.same)
   yields_size = st.yields_size;
   wants_inside = st.wants_inside;
   wants_size = st.wants_size;
+  ends = st.ends;
   device_harts = st.device_harts;
   few = st.few;
   favours = st.favours;
@@ -212,7 +105,10 @@ set_keeps c d spare more journal turns further_journal further_turns p q k harts
         few = k.board.few;
         favours = (let l = stands.favours in omega (arith, l, harts));
         streams = k.board.streams;
+        wants = k.board.wants;
+        orders = k.board.orders;
         counts = k.board.counts ∙ ap (λ (z : Replay FlatState). z.flat.counts) (sym at);
+        ahead = k.board.ahead;
         crew = subst (IsCrewState the_board) (sym at) k.board.crew;
         numbered = subst (λ (z : Replay FlatState). AreNumbered z.flat) (sym at) k.board.numbered;
         reached = reached;
@@ -253,7 +149,7 @@ pub favour_keeps : (c : Crew) (spare : List WaitList) (journal turns : Rows ℕ)
 favour_keeps c spare journal turns image first now abandoned prepared r k l =
     let p = plain_of c journal.rows turns.rows image first now abandoned prepared in
     set_keeps c (record c { favoured = r }) spare spare journal turns journal turns p (record p { favoured = r }) k refl refl refl
-    ((boards_set p k.board.reached).0 r (let z = k.board.streams in omega (arith, z, l))) (favour_stands c (board_of p spent) r k.stands l) k.empty
+    ((boards_set p k.board.reached).0 r (let z = k.board.streams in omega (arith, z, l))) (stands_favoured c (board_of p spent) r l k.stands) k.empty
     (λ t. ready_set c r c.closed spare journal turns (k.ready t))
 
 reached_aside : (p : Plain) (abandoned prepared : Bool) → IsReached p → IsReached (record p { abandoned = abandoned; prepared = prepared })
@@ -269,8 +165,7 @@ close_keeps c d cause spare journal turns image first now abandoned prepared fur
     let closed = Some (unwrap_or c.closed cause) in
     subst (λ (z : Crew). Keeps z spare journal turns (plain_of z journal.rows turns.rows image first now further prepared)) (sym is)
     (set_keeps c (record c { closed = closed }) spare spare journal turns journal turns p (record p { closed = closed; abandoned = further }) k refl refl refl
-    (reached_aside (record p { closed = closed }) further prepared ((boards_set p k.board.reached).1 cause))
-    (closed_stands c (board_of p spent) closed k.stands)
+    (reached_aside (record p { closed = closed }) further prepared ((boards_set p k.board.reached).1 cause)) (stands_closed c (board_of p spent) cause k.stands)
     k.empty (λ t. ready_set c c.favoured closed spare journal turns (k.ready t)))
 
 pub roomier_keeps : (c d : Crew) (spare more : List WaitList) (journal turns further_journal further_turns : Rows ℕ) (image : Image) (first now : World)

@@ -26,9 +26,10 @@ use Rattle.crew_core.specs.declared.order.Order.TheVariants.{Rest}
 use Rattle.crew_core.specs.Standing.{Stands, terms_of}
 use Rattle.crew_core.specs.Does.{Does, Enters}
 
-pub stands_closed : (c : Crew) (b : Board FlatState) (cause : Cause) → Stands c b
-    → Stands (record c { closed = Some (unwrap_or c.closed cause) }) (closes cause b)
-stands_closed c b cause st = record {
+-- the favoured hart, the cause and what console and clock have still to give may be set
+pub stands_set : (c : Crew) (b : Board FlatState) (f g : ℕ) (x y : Option Cause) (o : Supply) → Stands c b → f ≡ g → x ≡ y → f < c.harts
+    → Stands (record c { favoured = f; closed = x }) (record b { favoured = g; closed = y; supply = o })
+stands_set c b f g x y o st favoured closed inside = record {
   unit_is = st.unit_is;
   some = st.some;
   backs = st.backs;
@@ -44,8 +45,8 @@ stands_closed c b cause st = record {
   orders = st.orders;
   near = st.near;
   size = st.size;
-  favoured = st.favoured;
-  closed = ap (λ o. Some (unwrap_or o cause)) st.closed;
+  favoured = favoured;
+  closed = closed;
   harts = st.harts;
   board = st.board;
   crew = st.crew;
@@ -53,51 +54,28 @@ stands_closed c b cause st = record {
   numbers_size = st.numbers_size;
   yields_size = st.yields_size;
   wants_inside = st.wants_inside;
-  limit = st.limit;
   wants_size = st.wants_size;
+  ends = st.ends;
   device_harts = st.device_harts;
   few = st.few;
-  favours = st.favours;
+  favours = inside;
+  limit = st.limit;
   most_bytes = st.most_bytes;
   numbers_fit = st.numbers_fit;
   ordinal_fits = st.ordinal_fits;
 }
 
+pub stands_closed : (c : Crew) (b : Board FlatState) (cause : Cause) → Stands c b
+    → Stands (record c { closed = Some (unwrap_or c.closed cause) }) (closes cause b)
+stands_closed c b cause st =
+    stands_set c b c.favoured b.favoured (Some (unwrap_or c.closed cause)) (Some (unwrap_or b.closed cause)) b.supply st st.favoured
+    (ap (λ o. Some (unwrap_or o cause)) st.closed) st.favours
+
 pub stands_outside : (c : Crew) (b : Board FlatState) (o : Supply) → Stands c b → Stands c (record b { supply = o })
-stands_outside c b o st = record {
-  unit_is = st.unit_is;
-  some = st.some;
-  backs = st.backs;
-  holders = st.holders;
-  numbers = st.numbers;
-  wants = st.wants;
-  waits = st.waits;
-  numbered = st.numbered;
-  ordinal = st.ordinal;
-  streams = st.streams;
-  counts = st.counts;
-  polls = st.polls;
-  orders = st.orders;
-  near = st.near;
-  size = st.size;
-  favoured = st.favoured;
-  closed = st.closed;
-  harts = st.harts;
-  board = st.board;
-  crew = st.crew;
-  table = st.table;
-  numbers_size = st.numbers_size;
-  yields_size = st.yields_size;
-  wants_inside = st.wants_inside;
-  limit = st.limit;
-  wants_size = st.wants_size;
-  device_harts = st.device_harts;
-  few = st.few;
-  favours = st.favours;
-  most_bytes = st.most_bytes;
-  numbers_fit = st.numbers_fit;
-  ordinal_fits = st.ordinal_fits;
-}
+stands_outside c b o st = stands_set c b c.favoured b.favoured c.closed b.closed o st st.favoured st.closed st.favours
+
+pub stands_favoured : (c : Crew) (b : Board FlatState) (f : ℕ) → f < c.harts → Stands c b → Stands (record c { favoured = f }) (record b { favoured = f })
+stands_favoured c b f l st = stands_set c b f f c.closed b.closed b.supply st refl st.closed l
 
 -- whether there is room for an entry
 pub room_is : (c : Crew) (b : Board FlatState) (e : Entry) (bytes : ℕ) → Stands c b → size_of e ≡ bytes → has_room the_machine (terms_of c) e b

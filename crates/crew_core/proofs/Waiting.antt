@@ -6,26 +6,24 @@ use Rattle.std.specs.List.{enumerate_from}
 use Rattle.std.specs.Option.{option_or, option_and_then}
 use Rattle.std.proofs.lemmas.Option.{none-some, same_Some}
 use Rattle.std.proofs.lemmas.Bool.{cases_eq, eq-eqb, ne_eqb}
-use Rattle.std.proofs.lemmas.Bool.Decides.{eqb_tells}
 use Rattle.std.proofs.lemmas.List.{length-set, map-append}
 use Rattle.std.proofs.lemmas.List.Folds.{find-append}
 use Rattle.log_entry.specs.declared.waits.WaitFor.{WaitFor}
 use Rattle.log_entry.specs.declared.log.Entry.{Entry}
-use Rattle.log_entry.specs.declared.log.Entry.TheVariants.{Gain, Yield, Poll, Touch, End}
 use Rattle.log_entry.specs.declared.log.Log.{Log}
 use Rattle.log_entry.specs.Parts.{page_number, is_some_and}
 use Rattle.order_rules.specs.Places.{is_number, number_on, numbered}
-use Rattle.order_rules.specs.Rules.{waits_due, waits_after}
+use Rattle.order_rules.specs.Rules.{waits_due, waits_after, yields_after}
 use Rattle.std.proofs.lemmas.Option.{get_or_from_slice_get}
 use Rattle.privilege_directory.specs.Directory.{by_others}
-use Rattle.crew_core.specs.Standing.{yields_after, WaitsFollow}
-use Rattle.privilege_directory.proofs.Holds.{others_and_one, others_and_own}
+use Rattle.crew_core.specs.Standing.{WaitsFollow}
 use Rattle.shared_types.proofs.Lists.{set_here, set_there}
 use Rattle.crew_recording.specs.Recording.{stream_in}
 use Rattle.crew_core.proofs.Machine.{index_there}
 use Rattle.crew_recording.proofs.Numbers.{At, pushed, at_pushed}
 use Rattle.turn_model.specs.Board.{Terms}
 use Rattle.crew_core.specs.Standing.{AreNumbered, log_so_far}
+use Rattle.privilege_directory.proofs.Follow.{after_entry}
 
 -- all entries, each with its hart, from this hart on
 abbrev all : ℕ → List (List Entry) → List (ℕ × Entry)
@@ -123,22 +121,6 @@ not_yet streams numbers page below g i x at = by (page_number x) refl where
         (λ same. let m : k < slice_index numbers page = subst (λ z. k < slice_index numbers z) e l in absurd (omega (arith, m, same)))
     | inr n ↦ other_page page q k (slice_index numbers page) x is n
   ]
-
--- what a Gain by g waits for after the entry by h
-after_entry : (g h : ℕ) (e : Entry) (waits yields : List WaitFor) → waits ≡ by_others g yields → waits_after g waits (Some (h, e))
-    ≡ by_others g (yields_after h e yields)
-after_entry g h (Gain count page seq mode ws) waits yields same = refl
-after_entry g h (Poll count ord time bits) waits yields same = refl
-after_entry g h (Touch count ord input) waits yields same = refl
-after_entry g h (End count) waits yields same = refl
-after_entry g h (Yield count page seq left) waits yields same = elim (eqb_tells h g) [
-  | inl (t, e) ↦
-      ap (λ b. if b then waits else waits ++ record { hart = h; count = count } ∷ []) t ∙ same
-      ∙ subst (λ z. by_others z yields ≡ by_others z (yields ++ record { hart = h; count = count } ∷ [])) e (sym (others_and_own h count yields))
-  | inr (f, n) ↦
-      ap (λ b. if b then waits else waits ++ record { hart = h; count = count } ∷ []) f ∙ ap (λ ws. ws ++ record { hart = h; count = count } ∷ []) same
-      ∙ sym (others_and_one h g count yields (λ e. n (sym e)))
-]
 
 pub waits_more : (terms : Terms) (streams : List (List Entry)) (yields : List (List WaitFor)) (numbers : List ℕ) (h page : ℕ) (e : Entry) → h < length streams
     → page < length numbers → length yields ≡ length numbers

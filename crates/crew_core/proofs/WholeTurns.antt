@@ -33,6 +33,7 @@ use Rattle.turn_laws.specs.Supplies.{followed_by}
 use Rattle.crew_core.specs.Calls.{IsPast, poll_after, all_of}
 use Rattle.crew_core.specs.Turns.{changed, noted_in, noted_by, ComesTo}
 use Rattle.crew_core.proofs.Seated.{lanes, lane_of, seat_there, seated, seat_here, orders_set, order_of, near_set}
+use Rattle.crew_core.proofs.Sizes.{entries_fit}
 use Rattle.crew_core.proofs.Stepping.{stands_outside}
 use Rattle.crew_core.proofs.Dispatching.{nothing_given}
 use Rattle.crew_core.proofs.Yielding.{count_is}
@@ -80,6 +81,7 @@ stands_told c b h order journal turns st inside near =
       wants_inside = st.wants_inside;
       limit = st.limit;
       wants_size = st.wants_size;
+      ends = st.ends;
       device_harts = st.device_harts;
       few = st.few;
       favours = st.favours;
@@ -99,20 +101,25 @@ stands_told c b h order journal turns st inside near =
     by_poll g s (inl (same, is_seat)) here = subst (λ (z : Seat). IsLatestPoll z.lane.entries z.polled z.count) is_seat (st.polls h (seat_of c.seats h) here)
     by_poll g s (inr (other, at_g)) here = st.polls g s at_g
 
--- the next Poll is due within the distance of Polls
-poll_near : (count : ℕ) (polled : Option ℕ) → IsPast polled count → poll_after count polled ≤ count + poll_distance
-poll_near count None past = omega arith
+abbrev IsDueNear : ℕ → ℕ → Bool → Type 0
+IsDueNear count due later = (count ≤ (if later then due + poll_distance else due)) × ((if later then due + poll_distance else due) ≤ count + poll_distance)
+
+-- the next Poll is due within the distance of Polls, and not before
+poll_near : (count : ℕ) (polled : Option ℕ) → IsPast polled count
+    → (count ≤ poll_after count polled) × (poll_after count polled ≤ count + poll_distance)
+poll_near count None past = (omega arith, omega arith)
 poll_near count (Some last) past =
     let due = (count + (poll_distance - 1)) / poll_distance * poll_distance in
     elim (eqb_tells last due) [
-      | inl (t, same) ↦ subst (λ z. (if z then due + poll_distance else due) ≤ count + poll_distance) (sym t) (omega (arith, same, past))
-      | inr (t, other) ↦ subst (λ z. (if z then due + poll_distance else due) ≤ count + poll_distance) (sym t) (omega arith)
+      | inl (t, same) ↦ subst (IsDueNear count due) (sym t) (omega arith, omega (arith, same, past))
+      | inr (t, other) ↦ subst (IsDueNear count due) (sym t) (omega arith, omega arith)
     ]
 
--- a hart that is told to go on is told so near
+-- a hart that is told to go on is told so near, and ahead
 pub near_told : (c : Crew) (r : Run) (h : ℕ) (b : Board FlatState) (order : Order) → h < c.harts → Stands c b → Agrees r h b.at
     → IsNext (terms_of c) h (told order) b
     → IsNear c.limit (record (seat_of c.seats h) { order = Some order })
+    × ((seat_of c.seats h).count ≤ reach (record (seat_of c.seats h) { order = Some order }))
 near_told c r h b order inside st a next = by order next where
   seat : Seat
   seat = seat_of c.seats h
@@ -120,9 +127,13 @@ near_told c r h b order inside st a next = by order next where
   here : slice_get c.seats h ≡ Some (seat_of c.seats h)
   here = seat_there c.seats h (omega (arith, inside, st.harts))
 
+  most : (seat_of c.seats h).count ≤ c.limit
+  most = (st.near h (seat_of c.seats h) here).0
+
   by : (o : Order) → IsNext (terms_of c) h (told o) b → IsNear c.limit (record (seat_of c.seats h) { order = Some o })
-  by Rest next = ((st.near h (seat_of c.seats h) here).0, (st.near h (seat_of c.seats h) here).0, omega arith)
-  by (Hold page other) next = ((st.near h (seat_of c.seats h) here).0, (st.near h (seat_of c.seats h) here).0, omega arith)
+      × ((seat_of c.seats h).count ≤ reach (record (seat_of c.seats h) { order = Some o }))
+  by Rest next = ((most, most, omega arith), omega arith)
+  by (Hold page other) next = ((most, most, omega arith), omega arith)
   by (Go until) next =
       let latest = latest_of c r h b inside st a in
       let count : (seat_of c.seats h).count ≡ r.count = st.counts h (seat_of c.seats h) here ∙ count_is r h b a in
@@ -130,7 +141,9 @@ near_told c r h b order inside st a next = by order next where
       next ∙ ap (λ n. min c.limit (next_poll n (stream b h))) (count_is r h b a)
       ∙ ap (min c.limit) (next_is (stream b h) (seat_of c.seats h).polled r.count latest) in
       let near = poll_near r.count (seat_of c.seats h).polled (is_past (stream b h) (seat_of c.seats h).polled r.count latest) in
-      ((st.near h (seat_of c.seats h) here).0, omega (arith, is), omega (arith, is, near, count))
+      let later = near.0 in
+      let soon = near.1 in
+      ((most, omega (arith, is), omega (arith, is, soon, count)), omega (arith, is, later, count, most))
 
 -- moves leave the rows
 commits_keep : (t : Terms) (h n : ℕ) (b d : Board FlatState) → commits the_machine t h n b ≡ Some d → KeepsRows true b d
@@ -177,7 +190,7 @@ comes_to c mid last new r next h n t b left st inside committed same d is moves 
     (steps_keep (terms_of mid) h committed.to) in
     let first = commits_keep (terms_of c) h n b committed.to committed.made in
     let near = near_told last next h d.to t.order inside d.stands d.agrees (subst (λ z. IsNext z h (told t.order) d.to) (sym d.terms) kept.1) in
-    let stands : Stands new to = subst (λ z. Stands z to) (sym is) (stands_told last d.to h t.order to.journal to.turns d.stands inside near) in
+    let stands : Stands new to = subst (λ z. Stands z to) (sym is) (stands_told last d.to h t.order to.journal to.turns d.stands inside near.0) in
     let count_is : made_items ≡ t.items =
     ap₂ (λ x y. n + (x - y)) (entries_are new h to stands) (entries_are c h b st) ∙ sym items in
     let noted_here : is_noted h made_items b told_board ≡ t.noted =
@@ -194,6 +207,10 @@ comes_to c mid last new r next h n t b left st inside committed same d is moves 
       order = ap (λ (z : Crew). (seat_of z.seats h).order) is
           ∙ ap (λ (s : Seat). s.order) (seat_here last.seats h (record (seat_of last.seats h) { order = Some t.order })
           (let z = d.stands.harts in omega (arith, z, inside)));
+      ahead = subst (λ (s : Seat). s.count ≤ reach s)
+          (sym (ap (λ (z : Crew). seat_of z.seats h) is
+          ∙ seat_here last.seats h (record (seat_of last.seats h) { order = Some t.order }) (let z = d.stands.harts in omega (arith, z, inside))))
+          near.1;
       moves = moves;
       journal = ap₂ (λ i j. with_row (not (i == 0)) (h, i) j) count_is (kept.0.journal ∙ first.journal);
       turns = ap₂ (λ z m. with_row z (h, m) d.to.turns) noted_here (sym moves) ∙ ap (with_row t.noted (h, t.moves)) (kept.0.turns ∙ first.turns);
@@ -222,13 +239,22 @@ pub counted_room : (seats : List Seat) (h n count : ℕ) → h < length seats �
 counted_room seats h n count l room =
     subst (λ (s : Seat). length s.lane.entries + n ≤ s.lane.room) (sym (seat_here seats h (record (seat_of seats h) { count = count }) l)) room
 
--- the hart has its seat and its want after the steps
+-- the hart has its seat and its want after the steps, and no more entries than the log may have bytes
 pub last_there : (c mid last : Crew) (r next : Run) (h n : ℕ) (b : Board FlatState) (order : Order) (x y : SeenConsole) (k l : SeenClock)
     → Commits c mid r h n b → AccessDoes mid last r next h (Some order) (all_of mid h) x y k l → last.harts ≡ mid.harts → mid.harts ≡ c.harts → h < c.harts
-    → (h < length last.seats) × (h < length last.directory.wants)
+    → (h < length last.seats) × (h < length last.directory.wants) × (length (seat_of last.seats h).lane.entries ≤ 536870912)
 last_there c mid last r next h n b order x y k l m e steps first inside =
     let o : Supply = followed_by e.0 nothing_given in
     let d = e.4 (record m.to { supply = o }) nothing_given (stands_outside mid m.to o m.stands) m.agrees (λ f. (refl, refl)) refl in
     let seats = d.stands.harts in
     let wants = d.stands.wants_size in
-    (omega (arith, seats, steps, first, inside), omega (arith, wants, steps, first, inside))
+    let size = d.stands.size in
+    let most = d.stands.most_bytes in
+    let fits = entries_fit (terms_of last) d.to h in
+    let entries = entries_are last h d.to d.stands in
+    (omega (arith, seats, steps, first, inside), omega (arith, wants, steps, first, inside), omega (arith, size, most, fits, entries))
+
+-- a hart that is told how it goes on has as many entries
+pub told_entries : (seats : List Seat) (h : ℕ) (order : Order) → h < length seats
+    → length (seat_of (told_at h order seats) h).lane.entries ≡ length (seat_of seats h).lane.entries
+told_entries seats h order l = ap (λ (s : Seat). length s.lane.entries) (seat_here seats h (record (seat_of seats h) { order = Some order }) l)

@@ -9,6 +9,8 @@ use Rattle.rv_words.specs.declared.shared.DeviceWord.{DeviceWord}
 use Rattle.log_entry.specs.declared.log.Entry.{Entry}
 use Rattle.log_entry.specs.declared.log.Entry.TheVariants.{Yield}
 use Rattle.log_entry.specs.Parts.{conflict}
+use Rattle.log_entry.specs.Waits.{WaitList}
+use Rattle.rv_words.specs.declared.shared.TheConstants.{MAX_HARTS}
 use Rattle.run_model.specs.declared.asked.Ahead.{Ahead}
 use Rattle.run_model.specs.declared.asked.Ahead.TheVariants.{Wants}
 use Rattle.turn_model.specs.Ways.{Way, On, goes}
@@ -24,6 +26,7 @@ use Rattle.turn_model.specs.Steps as steps
 use Rattle.rv_words.specs.Limits.{poll_distance}
 use Rattle.crew_core.specs.declared.order.Order.{Order}
 use Rattle.crew_core.specs.declared.crew.Crew.{Crew}
+use Rattle.crew_core.specs.declared.rules.TheConstants.{DEVICE_BYTES}
 use Rattle.crew_parts.specs.Boards.{the_board, the_machine}
 use Rattle.crew_core.specs.Seats.{counted_at}
 use Rattle.crew_core.specs.Standing.{Stands, terms_of}
@@ -42,7 +45,7 @@ MakesPageEntry old new size = new ≡ record old { backing = new.backing; direct
 
 -- an entry with an ordinal was made
 abbrev pub MakesOrdinalEntry : Crew → Crew → Type 0
-MakesOrdinalEntry old new = new ≡ record old { backing = new.backing; ordinal = new.ordinal; seats = new.seats; size = old.size + 22 }
+MakesOrdinalEntry old new = new ≡ record old { backing = new.backing; ordinal = new.ordinal; seats = new.seats; size = old.size + DEVICE_BYTES }
 
 -- the least other hart that holds the page in conflict, else the least that stands before and wants it
 abbrev pub keeper_in : Crew → ℕ → ℕ → Mode → Option ℕ
@@ -87,6 +90,10 @@ BehindTouch old new h answer = (r : Run) → StepDoes old new r r h answer (step
 -- a Yield by the hart at its count, with the page's next number
 abbrev pub yield_by : ℕ → ℕ → Option Mode → Board FlatState → Entry
 yield_by h page left b = Yield (the_board.count b.at.flat h) page (slice_index b.at.cursor.numbers page) left
+
+-- there is room for a wait for each other hart, and none is there yet
+abbrev pub IsRoomy : WaitList → Type 0
+IsRoomy waits = (waits.items ≡ []) × (MAX_HARTS - 1 ≤ waits.room)
 
 -- the next move isn't kept from anything by a page
 abbrev pub IsNotWanting : Ahead → Type 0

@@ -5,5 +5,6 @@ pub mod Standing
 pub mod Does
 pub mod Calls
 pub mod Turns
+pub mod Finish
 pub mod Kept
 pub mod Hands

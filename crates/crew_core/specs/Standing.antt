@@ -1,10 +1,9 @@
 -- The board of turns that the recorder's board stands for.
-use Rattle.std.specs.Prelude.{ℕ, ◌≡◌, ◌+◌, ◌*◌, ◌<◌, ◌≤◌, ◌++◌, ◌∷◌, false, true, List, map, length, slice_get, slice_index, Option, Some, None}
+use Rattle.std.specs.Prelude.{vec_capacity, ℕ, ◌≡◌, ◌+◌, ◌*◌, ◌<◌, ◌≤◌, false, true, List, map, length, slice_get, slice_index, Option, Some, None}
 use Rattle.std.specs.Prelude.{unwrap_or, []}
 use Rattle.rv_words.specs.Limits.{page_bytes, poll_distance}
 use Rattle.rv_words.specs.declared.shared.Mode.{Mode}
 use Rattle.log_entry.specs.declared.log.Entry.{Entry}
-use Rattle.log_entry.specs.declared.log.Entry.TheVariants.{Yield}
 use Rattle.log_entry.specs.declared.waits.WaitFor.{WaitFor}
 use Rattle.privilege_directory.specs.Directory.{by_others}
 use Rattle.log_entry.specs.declared.log.Log.{Log}
@@ -17,6 +16,8 @@ use Rattle.order_rules.specs.Holders.{IsCrew}
 use Rattle.run_model.specs.Run.{Run}
 use Rattle.run_model.specs.Agreement.{Agrees}
 use Rattle.board_backing.specs.Backing.{Backs}
+use Rattle.board_backing.specs.Ends.{HasPlaces}
+use Rattle.board_backing.specs.declared.ends.Ends.{Ends}
 use Rattle.crew_parts.specs.Boards.{the_machine}
 use Rattle.turn_model.specs.Board.{Board, Terms, log_with}
 use Rattle.turn_model.specs.Ways.{log_size}
@@ -29,11 +30,6 @@ use Rattle.crew_core.specs.Seats.{reach}
 -- what turns ask of the terms
 abbrev pub terms_of : Crew → Terms
 terms_of c = record { pages = c.pages; image = c.image; limit = c.limit; log_limit = c.log_limit }
-
--- the Yields of a page since its latest Gain, once a hart made this entry of it
-abbrev pub yields_after : ℕ → Entry → List WaitFor → List WaitFor
-yields_after h (Yield count page seq left) yields = yields ++ record { hart = h; count = count } ∷ []
-yields_after h entry yields = []
 
 -- a Gain by any hart that took a page's next number would wait for the Yields by others
 abbrev pub WaitsFollow : Log → List (List WaitFor) → List ℕ → Type 0
@@ -53,6 +49,10 @@ log_so_far terms streams = log_with terms streams Limit
 abbrev pub IsLatestPoll : List Entry → Option ℕ → ℕ → Type 0
 IsLatestPoll entries None count = (n : ℕ) → has_poll entries n ≡ false
 IsLatestPoll entries (Some last) count = (has_poll entries last ≡ true) × (last ≤ count) × ((n : ℕ) → last < n → has_poll entries n ≡ false)
+
+-- there is room for the end: a place for each hart, each count and each byte of the memory, and for each stream
+abbrev pub HasEndRoom : Ends → List (List Entry) → ℕ → ℕ → ℕ → Type 0
+HasEndRoom ends streams room harts pages = HasPlaces ends harts (page_bytes * pages) × (streams ≡ []) × (harts ≤ room)
 
 -- the hart is within the limit, and may go on no further than that and the distance of Polls
 abbrev pub IsNear : ℕ → Seat → Type 0
@@ -86,6 +86,7 @@ pub record Stands (c : Crew) (b : Board FlatState) : Type 0 where
   pub yields_size : length c.directory.yields ≡ c.pages
   pub wants_inside : (g : ℕ) (n : ℕ × Mode) → unwrap_or (slice_get c.directory.wants g) None ≡ Some n → n.0 < c.pages
   pub wants_size : length c.directory.wants ≡ c.harts
+  pub ends : HasEndRoom c.ends c.streams.items (vec_capacity c.streams) c.harts c.pages
   pub device_harts : c.backing.devices.devices.harts ≡ c.harts
   pub few : c.harts ≤ 8
   pub favours : c.favoured < c.harts

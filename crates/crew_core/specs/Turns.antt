@@ -1,5 +1,5 @@
 -- A whole turn, and what is noted of it.
-use Rattle.std.specs.Prelude.{ℕ, ◌≡◌, ◌==◌, ◌||◌, ◌++◌, not, Bool, IsTrue, length, slice_get, Option, Some, None, unwrap_or, is_some}
+use Rattle.std.specs.Prelude.{ℕ, ◌≡◌, ◌≤◌, ◌==◌, ◌||◌, ◌++◌, not, Bool, IsTrue, length, slice_get, Option, Some, None, unwrap_or, is_some}
 use Rattle.std.specs.Option.{option_eq}
 use Rattle.rv_words.specs.declared.shared.Mode.{Mode}
 use Rattle.outside.specs.Seen.{SeenConsole, SeenClock}
@@ -15,7 +15,7 @@ use Rattle.crew_core.specs.declared.turned.Noted.{Noted}
 use Rattle.crew_core.specs.declared.turned.Turned.{Turned}
 use Rattle.crew_parts.specs.Boards.{the_machine}
 use Rattle.crew_core.specs.Orders.{told_of}
-use Rattle.crew_core.specs.Seats.{seat_of}
+use Rattle.crew_core.specs.Seats.{seat_of, reach}
 use Rattle.crew_core.specs.Standing.{Stands, terms_of}
 use Rattle.crew_core.specs.Does.{GivesNoMore}
 use Rattle.crew_parts.specs.Turns.{Gave, Took}
@@ -42,7 +42,7 @@ noted_in c h = record {
   entries = length (seat_of c.seats h).lane.entries;
 }
 
--- the turn with so many moves is the model's, and this is what it came to
+-- the turn with so many moves is the model's, and this is what it came to; the hart may not go on to less than its count
 pub record ComesTo (old new : Crew) (run : Run) (h n : ℕ) (t : Turned) (b : Board FlatState) (left : Supply) : Type 0 where
   pub to : Board FlatState
   pub made : turn the_machine (terms_of old) h n b ≡ Some to
@@ -51,6 +51,7 @@ pub record ComesTo (old new : Crew) (run : Run) (h n : ℕ) (t : Turned) (b : Bo
   pub agrees : Agrees run h to.at
   pub terms : terms_of new ≡ terms_of old
   pub order : (seat_of new.seats h).order ≡ Some t.order
+  pub ahead : (seat_of new.seats h).count ≤ reach (seat_of new.seats h)
   pub moves : t.moves ≡ n
   pub journal : to.journal ≡ with_row (not (t.items == 0)) (h, t.items) b.journal
   pub turns : to.turns ≡ with_row t.noted (h, t.moves) b.turns

@@ -21,7 +21,7 @@ ghost use Rattle.crew_core.specs.Calls.{due_at, IsDue, BehindTouch, IsNotWanting
 
 use crate::crew::Crew;
 use crate::order::Order;
-use crate::rules::{due, time_for};
+use crate::rules::{DEVICE_BYTES, due, time_for};
 use device_board::ConsoleFailed;
 use hart_run::{Ahead, HartRun};
 use log_entry::Entry;
@@ -44,7 +44,7 @@ impl Crew {
         requires tied { IsTied self.old run.old hart }
         requires hart { hart < self.old.harts }
         requires running { self.old.backing.devices.devices.stop ≡ None }
-        requires bytes { self.old.size + 22 ≤ 536870912 }
+        requires bytes { self.old.size + DEVICE_BYTES ≤ 536870912 }
         requires room { HasRoomFor 1 self.old.seats hart }
         ensures frame { MakesOrdinalEntry self.old self.new }
         ensures stop { self.new.backing.devices.devices.stop ≡ self.old.backing.devices.devices.stop }
@@ -67,7 +67,7 @@ impl Crew {
         };
         self.seats.poll(hart, entry, count);
         self.ordinal = ord + 1;
-        self.size += 22;
+        self.size += DEVICE_BYTES;
     }
 
     /// Makes the Poll that is due, where one is.
@@ -96,7 +96,7 @@ impl Crew {
         if !self.is_due(run, hart) {
             return None;
         }
-        if !self.has_room(22) {
+        if !self.has_room(DEVICE_BYTES) {
             self.close(Cause::Full);
             return Some(Order::Rest);
         }
@@ -122,7 +122,7 @@ impl Crew {
         requires below { run.old.count < self.old.limit }
         requires word { IsSome (device_word self.old.backing.devices.devices.harts access.at) }
         requires spare { 0 < self.old.backing.devices.spare }
-        requires bytes { self.old.size + 22 ≤ 536870912 }
+        requires bytes { self.old.size + DEVICE_BYTES ≤ 536870912 }
         requires room { HasRoomFor 1 self.old.seats hart }
         ensures frame { OnOk result (MakesOrdinalEntry self.old self.new) }
         ensures sent { OnOk result (IfSome (device_word self.old.backing.devices.devices.harts access.at)
@@ -146,7 +146,7 @@ impl Crew {
             Ok(input) => {
                 self.seats.touch(hart, Entry::Touch { count, ord, input });
                 self.ordinal = ord + 1;
-                self.size += 22;
+                self.size += DEVICE_BYTES;
                 Ok(())
             }
             Err(ConsoleFailed) => Err(ConsoleFailed),
@@ -206,7 +206,7 @@ impl Crew {
         let Some(word) = device_word(access.at, self.harts) else {
             return None;
         };
-        if !self.has_room(22) {
+        if !self.has_room(DEVICE_BYTES) {
             self.close(Cause::Full);
             return Some(Order::Rest);
         }
@@ -233,7 +233,7 @@ impl Crew {
         requires below { run.old.count < self.old.limit }
         requires word { device_word self.old.backing.devices.devices.harts access.at ≡ Some word }
         requires spare { 0 < self.old.backing.devices.spare }
-        requires bytes { self.old.size + 22 ≤ 536870912 }
+        requires bytes { self.old.size + DEVICE_BYTES ≤ 536870912 }
         requires room { HasRoomFor 1 self.old.seats hart }
         ensures harts { self.new.harts ≡ self.old.harts }
         ensures tells_answers { ToldBefore (C.seen console.old).tells_answers (C.seen console.new).tells_answers }

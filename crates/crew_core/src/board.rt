@@ -1,10 +1,10 @@
 //! The recorder's board: the crew with console, clock and the rows of its turns.
 
-ghost use Rattle.std.specs.Prelude.{ℕ, ◌≡◌, ◌<◌, ◌≤◌, length, map, true, IsTrue, IfOk, IfErr, OnOk, OnErr, Some, unwrap_or};
+ghost use Rattle.std.specs.Prelude.{ℕ, ◌≡◌, ◌↔◌, IsErr, ◌<◌, ◌≤◌, length, map, true, false, IsTrue, IfOk, IfErr, OnOk, OnErr, Some, unwrap_or};
 ghost use Rattle.orders_law.specs.Orders.{below};
 ghost use Rattle.rv_words.specs.declared.shared.Cause.TheVariants.{Cut};
 ghost use Rattle.run_model.specs.Run.{run_at_start};
-ghost use Rattle.crew_parts.specs.Boards.{world, plain_at_start, is_over_in, cut_in, IsBoardOf};
+ghost use Rattle.crew_parts.specs.Boards.{world, plain_at_start, is_over_in, cut_in, EndsAs, IsBoardOf};
 ghost use Rattle.crew_parts.specs.Parts.{number_of, AreParts, IsPartMoved};
 ghost use Rattle.crew_parts.specs.Turns.{HasTurn};
 ghost use Rattle.crew_core.specs.Orders.{told};
@@ -16,11 +16,12 @@ use crate::order::Order;
 use crate::room::{fill, take_two};
 use crate::row_list::Rows;
 use elf_image::Image;
+use flat_machine::Final;
 use hart_run::HartRun;
-use log_entry::Waits;
+use log_entry::{Log, Waits};
 use outside::{Clock, Console};
 use rv_words::{Cause, MAX_HARTS};
-use shared_types::NoMemory;
+use shared_types::{Listed, NoMemory};
 use std::alloc::Global;
 use std::marker::Model;
 use std::snapshot::Snapshot;
@@ -32,12 +33,29 @@ pub struct OutOfMemory<C: Console, K: Clock> {
     pub clock: K,
 }
 
+/// A row for each turn that made an item: a hart, and the number of its items.
+pub type Journal = Listed<(u8, u32)>;
+
+/// A row for each turn that changed anything: a hart, and the moves that were committed.
+pub type Turns = Listed<(u8, u32)>;
+
+/// What a recording came to.
+#[derive(Drop)]
+pub struct Recorded<C: Console, K: Clock> {
+    pub log: Log,
+    pub ended: Final,
+    pub journal: Journal,
+    pub turns: Turns,
+    pub console: C,
+    pub clock: K,
+}
+
 /// The board of a recording, to which the harts come for their turns.
 #[derive(Drop)]
 pub struct Board<C: Console, K: Clock> {
     crew: Crew,
     spare: Vec<Waits>,
-    journal: Rows<u64>,
+    journal: Rows<u32>,
     turns: Rows<u32>,
     abandoned: bool,
     prepared: bool,
@@ -195,7 +213,8 @@ impl<C: Console, K: Clock> Board<C, K> {
         let (first, second) = take_two(&mut self.spare);
         let hart = number_of(run);
         let turned = self.crew.turn(run, &mut self.console, &mut self.clock, hart, first, second);
-        self.journal.note(turned.items != 0, hart, turned.items);
+        self.journal
+            .note(turned.items != 0, hart, turned.items as u32);
         self.turns.note(turned.noted, hart, turned.moves);
         self.prepared = false;
         turned.order
@@ -233,5 +252,38 @@ impl<C: Console, K: Clock> Board<C, K> {
     {
         self.crew.close(Cause::Cut);
         self.abandoned = true;
+    }
+
+    /// What the board comes to, with the console and the clock: the log, with an End for each hart, and the state at
+    /// the end. The runs are those of the harts, in their order. It takes no memory. After want of memory console and
+    /// clock alone come back.
+    pub fn finish(self, runs: Vec<HartRun>) -> Result<Recorded<C, K>, OutOfMemory<C, K>>
+        requires { self.abandoned ≡ false → AreParts self runs.items }
+        ensures abandoned { IsErr result ↔ IsTrue self.abandoned }
+        ensures ended { IfOk result (λ r. EndsAs self r.log r.ended r.journal r.turns) }
+        ensures world { IfOk result (λ r. world (C.seen r.console) (K.seen r.clock) ≡ self.now) }
+        ensures refused { IfErr result (λ e. world (C.seen e.console) (K.seen e.clock) ≡ self.now) }
+    {
+        let Board {
+            crew,
+            journal,
+            turns,
+            abandoned,
+            console,
+            clock,
+            ..
+        } = self;
+        if abandoned {
+            return Err(OutOfMemory { console, clock });
+        }
+        let finished = crew.finish(&runs);
+        Ok(Recorded {
+            log: finished.log,
+            ended: finished.ended,
+            journal: journal.into_list(),
+            turns: turns.into_list(),
+            console,
+            clock,
+        })
     }
 }

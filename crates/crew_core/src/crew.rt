@@ -1,6 +1,6 @@
 //! The board between the harts' legs.
 
-ghost use Rattle.std.specs.Prelude.{ℕ, ◌≡◌, ◌≢◌, ◌<◌, ◌≤◌, ◌+◌, ◌*◌, ◌^◌, ◌-◌, ◌%◌, ◌&&◌, ◌||◌, ◌==◌, [], nat_le};
+ghost use Rattle.std.specs.Prelude.{ℕ, ◌≡◌, ◌≢◌, ◌<◌, ◌≤◌, ◌+◌, ◌^◌, ◌-◌, ◌%◌, ◌&&◌, ◌||◌, ◌==◌, nat_le};
 ghost use Rattle.std.specs.Prelude.{length};
 ghost use Rattle.std.specs.Prelude.{unwrap_or, is_some, IfOk, Some, None};
 ghost use Rattle.outside.specs.Seen.{ToldBefore};
@@ -17,20 +17,20 @@ ghost use Rattle.crew_core.specs.Does.{StepDoes, IsMoved, CommitsMoves, TimesDo,
 ghost use Rattle.crew_core.specs.Does.{rank_in, favour_after};
 ghost use Rattle.crew_core.specs.Turns.{noted_in, TurnDoes};
 ghost use Rattle.crew_core.specs.Calls.{terms_at, StandsAtStart, committed_in};
-ghost use Rattle.crew_core.specs.Calls.{IsNotWanting};
+ghost use Rattle.crew_core.specs.Calls.{IsNotWanting, IsRoomy};
 ghost use Rattle.crew_core.specs.Calls.{Rests, IsOpen, GoesOn, first_of, last_of, devices_of, closing_of, all_of};
 
 use crate::order::Order;
 use crate::rules::until_at;
 use crate::seat::Seats;
 use crate::turned::{Noted, Turned};
-use board_backing::Backing;
+use board_backing::{Backing, Ends};
 use elf_image::Image;
 use hart_run::HartRun;
-use log_entry::{Entry, Waits};
+use log_entry::{Entries, Entry, Waits, frame_size};
 use outside::{Clock, Console};
 use privilege_directory::Directory;
-use rv_words::{Cause, MAX_HARTS};
+use rv_words::{Cause, MAX_HARTS, PAGE_BYTES};
 use shared_types::NoMemory;
 use std::alloc::Global;
 
@@ -49,6 +49,9 @@ pub(crate) struct Crew {
     pub(crate) size: u64,
     pub(crate) favoured: u8,
     pub(crate) closed: Option<Cause>,
+    /// Room for what the board comes to.
+    pub(crate) ends: Ends,
+    pub(crate) streams: Vec<Entries>,
 }
 
 impl Crew {
@@ -70,6 +73,10 @@ impl Crew {
         let backing = Backing::start(alloc, image, harts)?;
         let directory = Directory::start(alloc, harts, pages)?;
         let seats = Seats::start(alloc, harts)?;
+        let ends = Ends::start(alloc, harts, image)?;
+        let Ok(streams) = Vec::with_capacity(alloc, usize::from(harts)) else {
+            return Err(NoMemory);
+        };
         Ok(Crew {
             pages,
             image: image.digest(),
@@ -80,9 +87,11 @@ impl Crew {
             directory,
             ordinal: 0,
             seats,
-            size: 49 + 13 * (harts as u64),
+            size: frame_size(PAGE_BYTES, harts),
             favoured: 0,
             closed: None,
+            ends,
+            streams,
         })
     }
 
@@ -260,8 +269,8 @@ impl Crew {
         requires below { run.old.count < self.old.limit }
         requires spare { 0 < self.old.backing.devices.spare }
         requires room { HasRoomFor 3 self.old.seats hart }
-        requires first { (first.items ≡ []) × (7 ≤ first.room) }
-        requires second { (second.items ≡ []) × (7 ≤ second.room) }
+        requires first { IsRoomy first }
+        requires second { IsRoomy second }
         ensures harts { self.new.harts ≡ self.old.harts }
         ensures tells_answers { ToldBefore (C.seen console.old).tells_answers (C.seen console.new).tells_answers }
         ensures tells_taken { ToldBefore (C.seen console.old).tells_taken (C.seen console.new).tells_taken }
@@ -337,8 +346,8 @@ impl Crew {
         requires within { run.old.count ≤ self.old.limit }
         requires spare { 0 < self.old.backing.devices.spare }
         requires room { HasRoomFor 12 self.old.seats hart }
-        requires first { (first.items ≡ []) × (7 ≤ first.room) }
-        requires second { (second.items ≡ []) × (7 ≤ second.room) }
+        requires first { IsRoomy first }
+        requires second { IsRoomy second }
         ensures harts { self.new.harts ≡ self.old.harts }
         ensures tells_answers { ToldBefore (C.seen console.old).tells_answers (C.seen console.new).tells_answers }
         ensures tells_taken { ToldBefore (C.seen console.old).tells_taken (C.seen console.new).tells_taken }
@@ -387,8 +396,8 @@ impl Crew {
         requires within { run.old.count ≤ reach (seat_of self.old.seats hart) }
         requires spare { 0 < self.old.backing.devices.spare }
         requires room { HasRoomFor 12 self.old.seats hart }
-        requires first { (first.items ≡ []) × (7 ≤ first.room) }
-        requires second { (second.items ≡ []) × (7 ≤ second.room) }
+        requires first { IsRoomy first }
+        requires second { IsRoomy second }
         ensures harts { self.new.harts ≡ self.old.harts }
         ensures tells_answers { ToldBefore (C.seen console.old).tells_answers (C.seen console.new).tells_answers }
         ensures tells_taken { ToldBefore (C.seen console.old).tells_taken (C.seen console.new).tells_taken }
@@ -396,6 +405,7 @@ impl Crew {
         ensures faults { CountsFaults self.old.closed self.new.closed
             (C.seen console.old).faults (C.seen console.new).faults }
         ensures sent { TakesSent self.old self.new (C.seen console.old) (C.seen console.new) }
+        ensures few { result.items < 2 ^ 32 }
         ensures does { TurnDoes self.old self.new run.old run.new hart result
             (C.seen console.old) (C.seen console.new) (K.seen clock.old) (K.seen clock.new) }
     {

@@ -1,6 +1,6 @@
 //! A hart gains the pages that its next move needs.
 
-ghost use Rattle.std.specs.Prelude.{◌≡◌, ◌<◌, ◌≤◌, ◌+◌, ◌*◌, ◌-◌, ◌&&◌, [], find, length};
+ghost use Rattle.std.specs.Prelude.{◌≡◌, ◌<◌, ◌≤◌, ◌+◌, ◌*◌, ◌-◌, ◌&&◌, find, length};
 ghost use Rattle.std.specs.Prelude.{is_some, IsTrue, Some, None};
 ghost use Rattle.std.specs.List.{range_with_len};
 ghost use Rattle.log_entry.specs.Parts.{strength, conflict};
@@ -14,11 +14,11 @@ ghost use Rattle.crew_core.specs.Standing.{IsTied, terms_of};
 ghost use Rattle.crew_core.specs.Does.{StepDoes, MakesEntry};
 ghost use Rattle.crew_core.specs.Does.{rivals};
 ghost use Rattle.crew_core.specs.Calls.{MakesPageEntry, keeper_in, KeptBy, wanting};
-ghost use Rattle.crew_core.specs.Calls.{IsNotWanting};
+ghost use Rattle.crew_core.specs.Calls.{IsNotWanting, IsRoomy};
 
 use crate::crew::Crew;
 use crate::order::Order;
-use crate::rules::is_against;
+use crate::rules::{GAIN_BYTES, WAIT_BYTES, is_against};
 use hart_run::{Ahead, HartRun};
 use log_entry::{Entry, Waits};
 use rv_words::{Cause, Mode};
@@ -94,8 +94,7 @@ impl Crew {
         requires page { page < self.old.pages }
         requires lacks { strength (hold_of run.old page) < strength (Some mode) }
         requires room { HasRoomFor 1 self.old.seats hart }
-        requires empty { waits.items ≡ [] }
-        requires seven { 7 ≤ waits.room }
+        requires waits { IsRoomy waits }
         ensures harts { self.new.harts ≡ self.old.harts }
         ensures closed { result ≡ None → self.new.closed ≡ self.old.closed }
         ensures devices { self.new.backing.devices ≡ self.old.backing.devices }
@@ -110,7 +109,7 @@ impl Crew {
             self.ask(hart, page, mode);
             return Some(Order::Hold { page, other });
         }
-        let bytes = 17 + 9 * self.directory.waiting(hart, page);
+        let bytes = GAIN_BYTES + WAIT_BYTES * self.directory.waiting(hart, page);
         if !self.has_room(bytes) {
             self.close(Cause::Full);
             return Some(Order::Rest);
@@ -130,8 +129,8 @@ impl Crew {
         requires tied { IsTied self.old run.old hart }
         requires hart { hart < self.old.harts }
         requires room { HasRoomFor 3 self.old.seats hart }
-        requires first { (first.items ≡ []) × (7 ≤ first.room) }
-        requires second { (second.items ≡ []) × (7 ≤ second.room) }
+        requires first { IsRoomy first }
+        requires second { IsRoomy second }
         ensures closed { result ≡ None → self.new.closed ≡ self.old.closed }
         ensures devices { self.new.backing.devices ≡ self.old.backing.devices }
         ensures limit { self.new.limit ≡ self.old.limit }
@@ -168,11 +167,10 @@ impl Crew {
         requires hart { hart < self.old.harts }
         requires page { page < self.old.pages }
         requires allowed { IsTrue (may_gain self.old.directory hart page mode) }
-        requires bytes { self.old.size + (17 + 9 * length (by_others hart (yields_of self.old.directory page)))
-            ≤ 536870912 }
+        requires bytes { self.old.size
+            + (GAIN_BYTES + WAIT_BYTES * length (by_others hart (yields_of self.old.directory page))) ≤ 536870912 }
         requires room { HasRoomFor 1 self.old.seats hart }
-        requires empty { waits.items ≡ [] }
-        requires seven { 7 ≤ waits.room }
+        requires waits { IsRoomy waits }
         ensures frame { MakesPageEntry self.old self.new self.new.size }
         ensures devices { self.new.backing.devices ≡ self.old.backing.devices }
         ensures count { run.new.count ≡ run.old.count }
@@ -183,7 +181,7 @@ impl Crew {
         let count = run.count();
         let seq = self.directory.gain(hart, page, mode, &mut waits);
         self.backing.gain(run, page, mode);
-        let bytes = 17 + 9 * waits.items().len() as u64;
+        let bytes = GAIN_BYTES + WAIT_BYTES * waits.items().len() as u64;
         self.enter(
             hart,
             Entry::Gain {

@@ -11,7 +11,7 @@ use std::marker::Model;
 /// The entries of one hart, with room for more that was taken before. One place stays free for its End.
 #[derive(Drop)]
 pub(crate) struct Lane {
-    entries: Vec<Entry>,
+    pub(crate) entries: Vec<Entry>,
 }
 
 impl Model for Lane {

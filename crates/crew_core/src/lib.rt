@@ -4,6 +4,7 @@
 mod accesses;
 mod board;
 mod crew;
+mod finish;
 mod gains;
 mod lane;
 mod order;
@@ -16,5 +17,5 @@ mod tests;
 mod turned;
 mod yields;
 
-pub use board::{Board, OutOfMemory};
+pub use board::{Board, Journal, OutOfMemory, Recorded, Turns};
 pub use order::Order;

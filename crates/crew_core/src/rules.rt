@@ -15,6 +15,18 @@ ghost use Rattle.crew_core.specs.Calls.{IsPast, poll_after};
 use outside::Clock;
 use rv_words::{DeviceWord, Mode, POLL_DISTANCE};
 
+/// The bytes of the log that a Yield takes.
+pub(crate) const YIELD_BYTES: u64 = 16;
+
+/// The bytes that a Poll or a Touch takes.
+pub(crate) const DEVICE_BYTES: u64 = 22;
+
+/// The bytes that a Gain takes without its waits.
+pub(crate) const GAIN_BYTES: u64 = 17;
+
+/// The bytes that each of its waits takes.
+pub(crate) const WAIT_BYTES: u64 = 9;
+
 /// What a hart keeps of a page that another wants in a mode.
 pub(crate) fn left_for(mode: Mode) -> Option<Mode>
     ensures { result ≡ left_for mode }

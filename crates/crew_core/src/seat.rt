@@ -27,7 +27,7 @@ pub(crate) struct Seat {
 /// A seat for each hart.
 #[derive(Drop)]
 pub(crate) struct Seats {
-    seats: Vec<Seat>,
+    pub(crate) seats: Vec<Seat>,
 }
 
 impl Model for Seats {

@@ -16,7 +16,7 @@ ghost use Rattle.crew_core.specs.Calls.{claims_in, yields_in, YieldsNow};
 
 use crate::crew::Crew;
 use crate::order::Order;
-use crate::rules::{conflict, holds_on, left_for};
+use crate::rules::{YIELD_BYTES, conflict, holds_on, left_for};
 use hart_run::HartRun;
 use log_entry::Entry;
 use rv_words::{Cause, Mode};
@@ -28,9 +28,9 @@ impl Crew {
         requires hart { hart < self.old.harts }
         requires page { page < self.old.pages }
         requires less { strength left < strength (held self.old.directory.holders page hart) }
-        requires bytes { self.old.size + 16 ≤ 536870912 }
+        requires bytes { self.old.size + YIELD_BYTES ≤ 536870912 }
         requires room { HasRoomFor 1 self.old.seats hart }
-        ensures frame { MakesPageEntry self.old self.new (self.old.size + 16) }
+        ensures frame { MakesPageEntry self.old self.new (self.old.size + YIELD_BYTES) }
         ensures devices { self.new.backing.devices ≡ self.old.backing.devices }
         ensures count { run.new.count ≡ run.old.count }
         ensures room { KeepsRoom self.old.seats self.new.seats hart }
@@ -47,7 +47,7 @@ impl Crew {
                 seq,
                 left,
             },
-            16,
+            YIELD_BYTES,
         );
     }
 
@@ -105,7 +105,7 @@ impl Crew {
         if !self.yields_now(run, hart, other, page, mode) {
             return None;
         }
-        if !self.has_room(16) {
+        if !self.has_room(YIELD_BYTES) {
             self.close(Cause::Full);
             return Some(Order::Rest);
         }

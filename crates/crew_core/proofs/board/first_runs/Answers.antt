@@ -1,4 +1,4 @@
-use Rattle.std.proofs.Common.{◌∙◌, ap, sym}
+use Rattle.std.proofs.Common.{◌∙◌}
 use Rattle.run_model.specs.Run.{run_at_start}
 use Rattle.crew_core.proofs.BoardStarts.{mapped_more}
 use Rattle.crew_core.proofs.board.first_runs.Goals as goal

@@ -1,4 +1,4 @@
-use Rattle.std.proofs.Common.{◌≡◌, ◌==◌, ◌||◌, Bool, map, ◌∙◌, ap, sym}
+use Rattle.std.proofs.Common.{◌==◌, ◌||◌, Bool, map, ◌∙◌, ap, sym}
 use Rattle.std.specs.List.{list_all}
 use Rattle.crew_parts.specs.Boards.{is_over_in}
 use Rattle.crew_core.specs.declared.seat.Seat.{Seat}

@@ -1,4 +1,4 @@
-use Rattle.std.proofs.Common.{◌≡◌, ◌≤◌, ◌<◌, length, false, subst, sym, arith}
+use Rattle.std.proofs.Common.{◌≤◌, ◌<◌, length, false, subst, sym, arith}
 use Rattle.std.specs.Prelude.{IsTrue}
 use Rattle.crew_parts.specs.Boards.{Plain, world}
 use Rattle.crew_parts.specs.Parts.{IsPartMoved, number_of}
@@ -56,7 +56,8 @@ invariant_of-self g c =
     c.note.new.self c.note-2.new.self _ _ _ _ c.self.inside.abandoned c.self.inside.prepared c.args.run.now c.turn-turned.new.run c.number_of-hart.result
     moved.0
     c.turn-turned.result k moved.1 c.number_of-hart.ensures c.turn-turned.ensures.harts c.turn-turned.ensures.tells_answers c.turn-turned.ensures.tells_taken
-    c.turn-turned.ensures.tells_times c.turn-turned.ensures.faults c.turn-turned.ensures.does c.note.ensures c.note-2.ensures c.take_two-first.ensures.rest).0
+    c.turn-turned.ensures.tells_times c.turn-turned.ensures.faults c.turn-turned.ensures.sent c.turn-turned.ensures.does c.note.ensures c.note-2.ensures
+    c.take_two-first.ensures.rest).0
 
 pub returns-clause-turn : goal.returns-clause-turn
 returns-clause-turn g c =
@@ -70,7 +71,8 @@ returns-clause-turn g c =
     c.note.new.self c.note-2.new.self _ _ _ _ c.self.inside.abandoned c.self.inside.prepared c.args.run.now c.turn-turned.new.run c.number_of-hart.result
     moved.0
     c.turn-turned.result k moved.1 c.number_of-hart.ensures c.turn-turned.ensures.harts c.turn-turned.ensures.tells_answers c.turn-turned.ensures.tells_taken
-    c.turn-turned.ensures.tells_times c.turn-turned.ensures.faults c.turn-turned.ensures.does c.note.ensures c.note-2.ensures c.take_two-first.ensures.rest).1
+    c.turn-turned.ensures.tells_times c.turn-turned.ensures.faults c.turn-turned.ensures.sent c.turn-turned.ensures.does c.note.ensures c.note-2.ensures
+    c.take_two-first.ensures.rest).1
 
 pub returns-clause-number : goal.returns-clause-number
 returns-clause-number g c =
@@ -80,4 +82,5 @@ returns-clause-number g c =
     c.note.new.self c.note-2.new.self _ _ _ _ c.self.inside.abandoned c.self.inside.prepared c.args.run.now c.turn-turned.new.run c.number_of-hart.result
     moved.0
     c.turn-turned.result k moved.1 c.number_of-hart.ensures c.turn-turned.ensures.harts c.turn-turned.ensures.tells_answers c.turn-turned.ensures.tells_taken
-    c.turn-turned.ensures.tells_times c.turn-turned.ensures.faults c.turn-turned.ensures.does c.note.ensures c.note-2.ensures c.take_two-first.ensures.rest).2
+    c.turn-turned.ensures.tells_times c.turn-turned.ensures.faults c.turn-turned.ensures.sent c.turn-turned.ensures.does c.note.ensures c.note-2.ensures
+    c.take_two-first.ensures.rest).2

@@ -9,7 +9,7 @@ use Rattle.crew_core.specs.Turns.{noted_by}
 use Rattle.crew_core.proofs.Sequence.{tie}
 use Rattle.crew_core.specs.Does.{bytes_sent}
 use Rattle.crew_core.proofs.SentBytes.{counts_behind, sends_behind}
-use Rattle.crew_core.proofs.WholeTurns.{moved_on, moves_few, counted_room, last_there, comes_to}
+use Rattle.crew_core.proofs.WholeTurns.{moved_on, moves_few, counted_room, last_there, told_entries, comes_to}
 use Rattle.crew_core.proofs.crew.Crew.turn.Goals as goal
 
 pub overflow_sub-moves : goal.overflow_sub-moves
@@ -99,3 +99,23 @@ pub returns-clause-sent : goal.returns-clause-sent
 returns-clause-sent g c =
     sends_behind c.args.self.now c.commit.new.self c.steps-order.new.self (g.C.Console.seen c.args.console.now) (g.C.Console.seen c.steps-order.new.console)
     (ap bytes_sent c.commit.ensures.frame) c.steps-order.ensures.sent
+
+pub returns-clause-few : goal.returns-clause-few
+returns-clause-few g c =
+    let t = c.requires.led in
+    let last =
+    (last_there c.args.self.now c.commit.new.self c.steps-order.new.self c.args.run.now c.steps-order.new.run c.args.hart t.1 t.0 c.steps-order.result
+    (g.C.Console.seen c.args.console.now) (g.C.Console.seen c.steps-order.new.console) (g.K.Clock.seen c.args.clock.now)
+    (g.K.Clock.seen c.steps-order.new.clock)
+    (c.commit.ensures.commits t.0 t.1 t.2 t.3) c.steps-order.ensures.does c.steps-order.ensures.harts (ap (λ (z : Crew). z.harts) c.commit.ensures.frame)
+    c.requires.hart) in
+    let count = moved_on c.args.self.now c.args.run.now c.args.hart t.1 t.0 t.2 t.3 c.requires.hart in
+    let moves = (moves_few c.args.self.now c.args.run.now c.args.hart t.1 t.0 t.2 t.3 c.requires.hart c.requires.within).0 in
+    let entries = last.2 in
+    let now = c.count.ensures in
+    let before = c.count-2.ensures in
+    let after = ap (λ (z : Noted). z.entries) c.noted-after.ensures.value in
+    let told = ap (λ (zs : List Seat). length (seat_of zs c.args.hart).lane.entries) c.tell.ensures
+    ∙ told_entries c.steps-order.new.self.seats c.args.hart c.steps-order.result last.0 in
+    let more = c.saturating_sub.ensures in
+    omega (arith, count, moves, entries, now, before, after, told, more)
