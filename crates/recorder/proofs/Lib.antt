@@ -1,10 +1,2 @@
-pub mod Moves
-pub mod Items
-pub mod ConsoleAndClock
-pub mod Soundness
-pub mod Progress
-pub mod Deficit
-pub mod RoomAndEnds
-pub mod Turns
-pub mod Ordinals
-pub mod RunsAsRecordings
+pub mod Manning
+pub mod Listing

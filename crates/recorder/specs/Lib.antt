@@ -1,6 +1,2 @@
-pub mod LoneRun
-pub mod Running
-pub mod Sources
-pub mod Added
-pub mod Turns
-pub mod Kept
+pub mod Manned
+pub mod Listed

@@ -1,10 +1,10 @@
-//! The recorder: from an image, a console and a clock to a log and the state in which the run ended
-//! (docs/recorder.md).
+//! Recordings by lists of turns, on one thread (docs/recorder.md).
 #![tactic(auto)]
 
-mod lone_run;
-mod record;
-mod solo;
-mod sources;
+mod crewed;
+mod list;
+#[cfg(test)]
+mod tests;
 
-pub use record::{OutOfMemory, SoloRecorded, record_one};
+pub use crewed::{PLACES, Recording};
+pub use list::{has_harts, record_list};

@@ -1,0 +1,773 @@
+//! Recordings by lists, worked out by hand. Words were encoded by an assembler of RISC-V.
+
+use crate::{has_harts, record_list};
+use crew_core::Recorded;
+use elf_image::{Image, read_image};
+use flat_machine::Final;
+use log_entry::{Entry, Log, Waits};
+use log_format::{in_range, write_log};
+use outside::{Asked, MemClock, MemConsole};
+use rv_words::{Cause, Input, Mode};
+use std::alloc::Global;
+use std::process::Abort;
+
+/// A board and its list, and what the recording comes to.
+#[derive(Clone, Copy)]
+struct Row<'a> {
+    words: &'a [u32],
+    /// Words behind zeros, from a place on.
+    behind: &'a [u32],
+    from: usize,
+    pages: u16,
+    harts: u8,
+    limit: u64,
+    log_limit: u64,
+    answers: &'a [Asked],
+    fails: &'a [u64],
+    list: &'a [(u8, u32)],
+
+    cause: Cause,
+    stop: Option<u32>,
+    size: usize,
+    streams: &'a [&'a [[u64; 7]]],
+    journal: &'a [(u8, u32)],
+    /// A hart, a register, and its value.
+    registers: &'a [(u8, u8, u32)],
+    /// A hart and its pc.
+    places: &'a [(u8, u32)],
+    /// A hart, a CSR, and its value.
+    csrs: &'a [(u8, u16, u32)],
+    /// Where a byte stands in memory, and the byte.
+    bytes: &'a [(usize, u8)],
+    taken: &'a [u8],
+}
+
+fn put_words(rt: &impl Abort, bytes: &mut Vec<u8>, words: &[u32]) {
+    for word in words {
+        bytes
+            .extend_from_slice(&word.to_le_bytes())
+            .expect(rt, "memory");
+    }
+}
+
+fn image(rt: &impl Abort, alloc: Global, row: &Row) -> Image {
+    assert!(rt; 1 <= row.pages && row.pages <= 4096);
+    let mut bytes = Vec::new(alloc);
+    put_words(rt, &mut bytes, row.words);
+    if !row.behind.is_empty() {
+        for _ in row.words.len()..row.from {
+            put_words(rt, &mut bytes, &[0]);
+        }
+        put_words(rt, &mut bytes, row.behind);
+    }
+    read_image(alloc, &bytes, row.pages).expect(rt, "an image")
+}
+
+fn recorded(rt: &impl Abort, alloc: Global, row: &Row) -> Recorded<MemConsole, MemClock> {
+    let image = image(rt, alloc, row);
+    let console = MemConsole::start(alloc, row.answers, Asked::Nothing, 64, row.fails).expect(
+        rt, "memory",
+    );
+    assert!(rt; 1 <= row.harts && row.harts <= 8);
+    assert!(rt; row.limit <= 1_000_000_000_000);
+    assert!(rt; 1024 <= row.log_limit && row.log_limit <= 536_870_912);
+    assert!(rt; has_harts(row.harts, row.list));
+    let clock = MemClock::start(5, 0);
+    match record_list(
+        alloc,
+        &image,
+        row.harts,
+        row.limit,
+        row.log_limit,
+        console,
+        clock,
+        row.list,
+    ) {
+        Ok(recorded) => recorded,
+        Err(_) => panic!(rt; "memory"),
+    }
+}
+
+fn mode_of(mode: Option<Mode>) -> u64 {
+    match mode {
+        None => 0,
+        Some(Mode::Read) => 1,
+        Some(Mode::Write) => 2,
+    }
+}
+
+fn wait_of(waits: &Waits) -> (u64, u64) {
+    match waits.items() {
+        [] => (0, 0),
+        [wait] => (u64::from(wait.hart) + 1, wait.count),
+        _ => (u64::MAX, u64::MAX),
+    }
+}
+
+fn input_of(input: Input) -> (u64, u64) {
+    match input {
+        Input::Nothing => (0, 0),
+        Input::Empty => (1, 0),
+        Input::Byte(byte) => (2, u64::from(byte)),
+        Input::Time(time) => (3, time),
+    }
+}
+
+/// The kind of an entry in the log's bytes, its count, its page and number or its ordinal, and what else it says; of a
+/// gain's wait the hart's number and one.
+fn told(entry: &Entry) -> [u64; 7] {
+    match entry {
+        Entry::Gain {
+            count,
+            page,
+            seq,
+            mode,
+            waits,
+        } => {
+            let wait = wait_of(waits);
+            [
+                1,
+                *count,
+                u64::from(*page),
+                u64::from(*seq),
+                mode_of(Some(*mode)),
+                wait.0,
+                wait.1,
+            ]
+        }
+        Entry::Yield {
+            count,
+            page,
+            seq,
+            left,
+        } => [
+            2,
+            *count,
+            u64::from(*page),
+            u64::from(*seq),
+            mode_of(*left),
+            0,
+            0,
+        ],
+        Entry::Poll {
+            count,
+            ord,
+            time,
+            bits,
+        } => [3, *count, u64::from(*ord), *time, u64::from(*bits), 0, 0],
+        Entry::Touch { count, ord, input } => {
+            let given = input_of(*input);
+            [4, *count, u64::from(*ord), given.0, given.1, 0, 0]
+        }
+        Entry::End { count } => [5, *count, 0, 0, 0, 0, 0],
+    }
+}
+
+fn has_stream(log: &Log, hart: usize, rows: &[[u64; 7]]) -> bool {
+    match log.streams.items().get(hart) {
+        Some(stream) => {
+            stream.items().len() == rows.len()
+                && stream
+                    .items()
+                    .iter()
+                    .zip(rows)
+                    .all(|(entry, row)| told(entry) == *row)
+        }
+        None => false,
+    }
+}
+
+fn has_streams(log: &Log, streams: &[&[[u64; 7]]]) -> bool {
+    for (hart, rows) in streams.iter().enumerate() {
+        if !has_stream(log, hart, rows) {
+            return false;
+        }
+    }
+    true
+}
+
+fn has_size(alloc: Global, log: &Log, size: usize) -> bool {
+    if !in_range(log) {
+        return false;
+    }
+    match write_log(alloc, log) {
+        Ok(bytes) => size == 0 || bytes.len() == size,
+        Err(_) => false,
+    }
+}
+
+fn has_registers(ended: &Final, row: &Row) -> bool {
+    for (hart, register, value) in row.registers {
+        match ended.harts.items().get(usize::from(*hart)) {
+            Some(hart) if *register < 32 => {
+                if hart.reg(*register) != *value {
+                    return false;
+                }
+            }
+            _ => return false,
+        }
+    }
+    true
+}
+
+fn has_places(ended: &Final, row: &Row) -> bool {
+    for (hart, pc) in row.places {
+        match ended.harts.items().get(usize::from(*hart)) {
+            Some(hart) if hart.pc() == *pc => {}
+            _ => return false,
+        }
+    }
+    true
+}
+
+fn has_csrs(ended: &Final, row: &Row) -> bool {
+    for (hart, number, value) in row.csrs {
+        match ended.harts.items().get(usize::from(*hart)) {
+            Some(hart) if hart.csr(*number) == Some(*value) => {}
+            _ => return false,
+        }
+    }
+    true
+}
+
+fn has_bytes(ended: &Final, row: &Row) -> bool {
+    for (at, byte) in row.bytes {
+        if ended.memory.items().get(*at) != Some(byte) {
+            return false;
+        }
+    }
+    true
+}
+
+fn has_end(ended: &Final, row: &Row) -> bool {
+    has_registers(ended, row)
+        && has_places(ended, row)
+        && has_csrs(ended, row)
+        && has_bytes(ended, row)
+}
+
+/// Whether a row's recording comes to what it should.
+fn holds(rt: &impl Abort, alloc: Global, row: &Row) -> bool {
+    let r = recorded(rt, alloc, row);
+    r.log.cause == row.cause
+        && r.ended.stop == row.stop
+        && has_size(alloc, &r.log, row.size)
+        && has_streams(&r.log, row.streams)
+        && (row.journal.is_empty() || r.journal.items() == row.journal)
+        && has_end(&r.ended, row)
+        && r.console.taken() == row.taken
+}
+
+fn plain_row<'a>(words: &'a [u32], harts: u8, limit: u64, list: &'a [(u8, u32)]) -> Row<'a> {
+    Row {
+        words,
+        behind: &[],
+        from: 0,
+        pages: 1,
+        harts,
+        limit,
+        log_limit: 67_108_864,
+        answers: &[],
+        fails: &[],
+        list,
+        cause: Cause::Limit,
+        stop: None,
+        size: 0,
+        streams: &[],
+        journal: &[],
+        registers: &[],
+        places: &[],
+        csrs: &[],
+        bytes: &[],
+        taken: &[],
+    }
+}
+
+const POLL: [u64; 7] = [3, 0, 0, 5, 0, 0, 0];
+
+const NEXT_POLL: [u64; 7] = [3, 0, 1, 5, 0, 0, 0];
+
+const GAIN: [u64; 7] = [1, 0, 0, 0, 1, 0, 0];
+
+const NEXT_GAIN: [u64; 7] = [1, 0, 0, 1, 1, 0, 0];
+
+fn end(count: u64) -> [u64; 7] {
+    [5, count, 0, 0, 0, 0, 0]
+}
+
+// lui x1, 0x10000; addi x2, x0, 7; sw x2, 8(x1): the store to STOP.
+const STOPS: [u32; 3] = [0x1000_00b7, 0x0070_0113, 0x0020_a423];
+
+fn stops(list: &[(u8, u32)]) -> Row {
+    plain_row(&STOPS, 1, 100, list)
+}
+
+fn smallest(alloc: Global, rt: &impl Abort) -> bool {
+    let streams = [POLL, GAIN, [4, 2, 1, 0, 0, 0, 0], end(3)];
+    let wanted = Row {
+        cause: Cause::Stop,
+        stop: Some(7),
+        size: 123,
+        streams: &[&streams],
+        journal: &[(0, 2), (0, 3)],
+        places: &[(0, 0x8000_000c)],
+        ..stops(&[(0, 100), (0, 100)])
+    };
+    let r = recorded(rt, alloc, &wanted);
+    holds(rt, alloc, &wanted) && r.turns.items() == [(0, 0), (0, 2)].as_slice()
+}
+
+fn empty_list(alloc: Global, rt: &impl Abort) -> bool {
+    let streams = [end(0)];
+    let wanted = Row {
+        cause: Cause::Cut,
+        streams: &[&streams],
+        ..stops(&[])
+    };
+    let r = recorded(rt, alloc, &wanted);
+    holds(rt, alloc, &wanted) && r.journal.items().is_empty()
+}
+
+fn no_moves(alloc: Global, rt: &impl Abort) -> bool {
+    let streams = [end(0)];
+    let wanted = Row {
+        size: 75,
+        streams: &[&streams, &streams],
+        ..plain_row(&STOPS, 2, 0, &[])
+    };
+    let r = recorded(rt, alloc, &wanted);
+    holds(rt, alloc, &wanted) && r.journal.items().is_empty()
+}
+
+// jal x0, 0
+const LOOPS: [u32; 1] = [0x0000_006f];
+
+fn to_the_first_poll(alloc: Global, rt: &impl Abort) -> bool {
+    let streams = [POLL, GAIN, end(4096)];
+    let wanted = Row {
+        size: 101,
+        streams: &[&streams],
+        places: &[(0, 0x8000_0000)],
+        ..plain_row(&LOOPS, 1, 4096, &[(0, 9000), (0, 9000)])
+    };
+    holds(rt, alloc, &wanted)
+}
+
+fn past_the_first_poll(alloc: Global, rt: &impl Abort) -> bool {
+    let streams = [POLL, GAIN, [3, 4096, 1, 5, 0, 0, 0], end(4097)];
+    let wanted = Row {
+        size: 123,
+        streams: &[&streams],
+        ..plain_row(&LOOPS, 1, 4097, &[(0, 9000), (0, 9000), (0, 9000)])
+    };
+    holds(rt, alloc, &wanted)
+}
+
+fn full_log(alloc: Global, rt: &impl Abort) -> bool {
+    let wanted = Row {
+        log_limit: 1024,
+        cause: Cause::Full,
+        size: 1003,
+        ..plain_row(&LOOPS, 1, 1_000_000, &[(0, 9000); 60])
+    };
+    let r = recorded(rt, alloc, &wanted);
+    holds(rt, alloc, &wanted) && r.ended.counts.items() == [172_032].as_slice()
+}
+
+#[test]
+fn one_hart(rt: HostRuntime) {
+    assert!(rt; smallest(rt.alloc(), &rt));
+    assert!(rt; empty_list(rt.alloc(), &rt));
+    assert!(rt; no_moves(rt.alloc(), &rt));
+    assert!(rt; to_the_first_poll(rt.alloc(), &rt));
+    assert!(rt; past_the_first_poll(rt.alloc(), &rt));
+    assert!(rt; full_log(rt.alloc(), &rt));
+}
+
+// lui x1, 0x80001; lw x2, 0(x1); addi x2, x2, 1; sw x2, 0(x1); jal x0, 0
+const ADDS: [u32; 5] = [
+    0x8000_10b7,
+    0x0000_a103,
+    0x0011_0113,
+    0x0020_a023,
+    0x0000_006f,
+];
+
+fn adds<'a>(list: &'a [(u8, u32)], bytes: &'a [(usize, u8)]) -> Row<'a> {
+    Row {
+        pages: 2,
+        bytes,
+        ..plain_row(&ADDS, 2, 8, list)
+    }
+}
+
+// One hart after the other.
+fn one_by_one(alloc: Global, rt: &impl Abort) -> bool {
+    let list = [
+        (0, 8),
+        (0, 8),
+        (0, 8),
+        (0, 8),
+        (1, 8),
+        (0, 8),
+        (1, 8),
+        (0, 8),
+        (1, 8),
+        (0, 8),
+        (1, 8),
+        (0, 8),
+        (1, 8),
+        (0, 8),
+        (1, 8),
+        (0, 8),
+    ];
+    holds(rt, alloc, &adds(&list, &[(4096, 2), (4097, 0)]))
+}
+
+// Both read before either writes.
+fn in_turns(alloc: Global, rt: &impl Abort) -> bool {
+    let list = [
+        (0, 8),
+        (1, 8),
+        (0, 8),
+        (1, 8),
+        (0, 2),
+        (1, 2),
+        (0, 8),
+        (0, 8),
+        (1, 8),
+        (1, 8),
+    ];
+    let first = [
+        POLL,
+        GAIN,
+        [1, 1, 1, 0, 1, 0, 0],
+        [1, 3, 1, 3, 2, 2, 3],
+        [2, 8, 1, 4, 0, 0, 0],
+        end(8),
+    ];
+    let second = [
+        NEXT_POLL,
+        NEXT_GAIN,
+        [1, 1, 1, 1, 1, 0, 0],
+        [2, 3, 1, 2, 0, 0, 0],
+        [1, 3, 1, 5, 2, 1, 8],
+        end(8),
+    ];
+    let wanted = Row {
+        streams: &[&first, &second],
+        journal: &[
+            (0, 2),
+            (1, 2),
+            (0, 2),
+            (1, 2),
+            (0, 2),
+            (1, 3),
+            (0, 1),
+            (0, 6),
+            (1, 1),
+            (1, 5),
+        ],
+        ..adds(&list, &[(4096, 1), (4097, 0)])
+    };
+    holds(rt, alloc, &wanted)
+}
+
+fn put_rows(rt: &impl Abort, list: &mut Vec<(u8, u32)>, times: u8, rows: &[(u8, u32)]) {
+    for _ in 0..times {
+        list.extend_from_slice(rows).expect(rt, "memory");
+    }
+}
+
+// lui x1, 0x80001; addi x3, x0, 1000; lw x2, 0(x1); addi x2, x2, 1; sw x2, 0(x1); addi x3, x3, -1; bne x3, x0, -16;
+// jal x0, 0
+const ADDS_OFTEN: [u32; 8] = [
+    0x8000_10b7,
+    0x3e80_0193,
+    0x0000_a103,
+    0x0011_0113,
+    0x0020_a023,
+    0xfff1_8193,
+    0xfe01_98e3,
+    0x0000_006f,
+];
+
+fn thousand_each(alloc: Global, rt: &impl Abort) -> bool {
+    let mut list = Vec::new(alloc);
+    put_rows(rt, &mut list, 10, &[(0, 6000)]);
+    put_rows(rt, &mut list, 10, &[(1, 6000), (0, 6000)]);
+    let wanted = Row {
+        pages: 2,
+        bytes: &[(4096, 0xd0), (4097, 7)],
+        ..plain_row(&ADDS_OFTEN, 2, 6000, &list)
+    };
+    holds(rt, alloc, &wanted)
+}
+
+// lui x1, 0x80001; addi x3, x0, 1000; addi x2, x0, 1; amoadd.w x0, x2, (x1); addi x3, x3, -1; bne x3, x0, -8;
+// jal x0, 0
+const AMOS: [u32; 7] = [
+    0x8000_10b7,
+    0x3e80_0193,
+    0x0010_0113,
+    0x0020_a02f,
+    0xfff1_8193,
+    0xfe01_9ce3,
+    0x0000_006f,
+];
+
+fn atomic_each(alloc: Global, rt: &impl Abort) -> bool {
+    let mut list = Vec::new(alloc);
+    put_rows(rt, &mut list, 10, &[(0, 700), (1, 900)]);
+    put_rows(rt, &mut list, 10, &[(1, 6000), (0, 6000)]);
+    let wanted = Row {
+        pages: 2,
+        bytes: &[(4096, 0xd0), (4097, 7)],
+        ..plain_row(&AMOS, 2, 4000, &list)
+    };
+    holds(rt, alloc, &wanted)
+}
+
+#[test]
+fn races(rt: HostRuntime) {
+    assert!(rt; one_by_one(rt.alloc(), &rt));
+    assert!(rt; in_turns(rt.alloc(), &rt));
+    assert!(rt; thousand_each(rt.alloc(), &rt));
+    assert!(rt; atomic_each(rt.alloc(), &rt));
+}
+
+// csrrs x5, mhartid, x0; lui x1, 0x80001; bne x5, x0, 16; lr.w x2, (x1); sc.w x3, x2, (x1); jal x0, 0;
+// lw x4, 0(x1); jal x0, 0
+const DOWNGRADES: [u32; 8] = [
+    0xf140_22f3,
+    0x8000_10b7,
+    0x0002_9863,
+    0x1000_a12f,
+    0x1820_a1af,
+    0x0000_006f,
+    0x0000_a203,
+    0x0000_006f,
+];
+
+fn has_row(log: &Log, hart: usize, row: [u64; 7]) -> bool {
+    match log.streams.items().get(hart) {
+        Some(stream) => stream.items().iter().any(|entry| told(entry) == row),
+        None => false,
+    }
+}
+
+// A reader ends the reservation of the hart that held the page in write.
+fn downgraded(alloc: Global, rt: &impl Abort) -> bool {
+    let list = [
+        (0, 8),
+        (0, 3),
+        (1, 8),
+        (1, 8),
+        (0, 1),
+        (1, 8),
+        (1, 8),
+        (0, 8),
+        (0, 8),
+    ];
+    let wanted = Row {
+        pages: 2,
+        cause: Cause::Cut,
+        registers: &[(0, 3, 1), (1, 4, 0)],
+        bytes: &[(4096, 0), (4097, 0)],
+        ..plain_row(&DOWNGRADES, 2, 8, &list)
+    };
+    let r = recorded(rt, alloc, &wanted);
+    has_end(&r.ended, &wanted)
+        && has_row(&r.log, 0, [2, 4, 1, 1, 1, 0, 0])
+        && has_row(&r.log, 1, [1, 3, 1, 2, 1, 1, 4])
+}
+
+// Hart 0 stores to hart 1's software interrupt, whose handler at 0x8000010c clears it.
+const RAISES: [u32; 12] = [
+    0xf140_22f3,
+    0x0002_9a63,
+    0x0200_00b7,
+    0x0010_0113,
+    0x0020_a223,
+    0x0000_006f,
+    0x8000_00b7,
+    0x1010_8093,
+    0x3050_9073,
+    0x3044_5073,
+    0x3004_6073,
+    0x0000_006f,
+];
+
+const CLEARS: [u32; 3] = [0x0200_00b7, 0x0000_a223, 0x3020_0073];
+
+fn interrupted(alloc: Global, rt: &impl Abort) -> bool {
+    let list = [
+        (0, 9000),
+        (1, 9000),
+        (0, 9000),
+        (1, 9000),
+        (1, 9000),
+        (1, 9000),
+        (0, 9000),
+        (0, 9000),
+    ];
+    let first = [
+        POLL,
+        GAIN,
+        [4, 4, 2, 0, 0, 0, 0],
+        [3, 4096, 5, 5, 0, 0, 0],
+        end(4102),
+    ];
+    let second = [
+        NEXT_POLL,
+        NEXT_GAIN,
+        [3, 4096, 3, 5, 1, 0, 0],
+        [4, 4098, 4, 0, 0, 0, 0],
+        end(4102),
+    ];
+    let wanted = Row {
+        behind: &CLEARS,
+        from: 67,
+        size: 241,
+        streams: &[&first, &second],
+        journal: &[
+            (0, 2),
+            (1, 2),
+            (0, 5),
+            (1, 4097),
+            (1, 3),
+            (1, 3),
+            (0, 4092),
+            (0, 6),
+        ],
+        places: &[(1, 0x8000_002c)],
+        csrs: &[
+            (1, 0x300, 0x1888),
+            (1, 0x341, 0x8000_002c),
+            (1, 0x342, 0x8000_0003),
+            (1, 0x344, 0),
+            (1, 0xb00, 4102),
+            (1, 0xb02, 4101),
+        ],
+        ..plain_row(&RAISES, 2, 4102, &list)
+    };
+    holds(rt, alloc, &wanted)
+}
+
+// Hart 0 stores addi x3, x0, 7 over the jal that hart 1 runs.
+const WRITES_CODE: [u32; 9] = [
+    0xf140_22f3,
+    0x0002_9a63,
+    0x8000_00b7,
+    0x01c0_a103,
+    0x0020_ac23,
+    0x0000_006f,
+    0x0000_006f,
+    0x0070_0193,
+    0x0000_006f,
+];
+
+fn code_written(alloc: Global, rt: &impl Abort) -> bool {
+    let list = [
+        (0, 12),
+        (1, 12),
+        (0, 12),
+        (1, 4),
+        (0, 12),
+        (0, 1),
+        (1, 12),
+        (1, 12),
+        (0, 12),
+    ];
+    let first = [
+        POLL,
+        GAIN,
+        [1, 4, 0, 3, 2, 2, 4],
+        [2, 5, 0, 4, 1, 0, 0],
+        end(12),
+    ];
+    let second = [
+        NEXT_POLL,
+        NEXT_GAIN,
+        [2, 4, 0, 2, 0, 0, 0],
+        [1, 4, 0, 5, 1, 1, 5],
+        end(12),
+    ];
+    let wanted = Row {
+        streams: &[&first, &second],
+        registers: &[(1, 3, 7)],
+        places: &[(1, 0x8000_0020)],
+        ..plain_row(&WRITES_CODE, 2, 12, &list)
+    };
+    holds(rt, alloc, &wanted)
+}
+
+#[test]
+fn two_harts(rt: HostRuntime) {
+    assert!(rt; downgraded(rt.alloc(), &rt));
+    assert!(rt; interrupted(rt.alloc(), &rt));
+    assert!(rt; code_written(rt.alloc(), &rt));
+}
+
+// lui x1, 0x10000; lw x2, 0(x1); lw x3, 0(x1); lw x4, 0(x1); sw x0, 8(x1)
+const READS: [u32; 5] = [
+    0x1000_00b7,
+    0x0000_a103,
+    0x0000_a183,
+    0x0000_a203,
+    0x0000_a423,
+];
+
+fn input_read(alloc: Global, rt: &impl Abort) -> bool {
+    let streams = [
+        POLL,
+        GAIN,
+        [4, 1, 1, 1, 0, 0, 0],
+        [4, 2, 2, 2, 65, 0, 0],
+        [4, 3, 3, 1, 0, 0, 0],
+        [4, 4, 4, 0, 0, 0, 0],
+        end(5),
+    ];
+    let wanted = Row {
+        answers: &[Asked::Nothing, Asked::Byte(65), Asked::End],
+        cause: Cause::Stop,
+        stop: Some(0),
+        streams: &[&streams],
+        registers: &[(0, 2, 0xffff_ffff), (0, 3, 65), (0, 4, 0xffff_ffff)],
+        ..plain_row(&READS, 1, 100, &[(0, 100); 6])
+    };
+    holds(rt, alloc, &wanted)
+}
+
+// lui x1, 0x10000; addi x2, x0, 65; sw x2, 4(x1), three times
+const SENDS: [u32; 5] = [
+    0x1000_00b7,
+    0x0410_0113,
+    0x0020_a223,
+    0x0020_a223,
+    0x0020_a223,
+];
+
+fn console_failed(alloc: Global, rt: &impl Abort) -> bool {
+    let streams = [
+        POLL,
+        GAIN,
+        [4, 2, 1, 0, 0, 0, 0],
+        [4, 3, 2, 0, 0, 0, 0],
+        end(4),
+    ];
+    let wanted = Row {
+        fails: &[2],
+        cause: Cause::Fault,
+        streams: &[&streams],
+        taken: &[65, 65],
+        ..plain_row(&SENDS, 1, 100, &[(0, 100); 6])
+    };
+    holds(rt, alloc, &wanted)
+}
+
+#[test]
+fn consoles(rt: HostRuntime) {
+    assert!(rt; input_read(rt.alloc(), &rt));
+    assert!(rt; console_failed(rt.alloc(), &rt));
+}

@@ -1,9 +1,0 @@
-pub mod Fits
-pub mod Tidy
-pub mod Items
-pub mod Rules
-pub mod Obedience
-pub mod Outcome
-pub mod Takings
-pub mod Solo
-pub mod BoardClock
