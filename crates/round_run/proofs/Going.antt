@@ -1,0 +1,102 @@
+-- Legs of all harts.
+use Rattle.std.proofs.Common.{◌≡◌, ℕ, ◌<◌, ◌≤◌, true, List, length, Option, Some, None, slice_get, slice_index, slice_index_or, refl, sym, ap, ◌∙◌, subst, arith, slice_set, take, drop, ◌++◌, ◌+◌, inl, inr}
+use Rattle.std.proofs.lemmas.Option.{get_or_from_slice_get, same_Some, slice_get-get_or, slice_get_read, slice_get_within}
+use Rattle.std.proofs.lemmas.Bool.Decides.{eqb_tells}
+use Rattle.std.proofs.lemmas.List.{get_or-set_other, length-set, take-append-le, take_all}
+use Rattle.shared_types.proofs.Lists.{found_at, set_here}
+use Rattle.rv_words.specs.Limits.{page_bytes}
+use Rattle.replay_model.specs.Board.{board}
+use Rattle.replay_model.specs.State.{IsCrewState}
+use Rattle.run_model.specs.Run.{Run}
+use Rattle.run_model.specs.Legs.{MakesLeg}
+use Rattle.turn_model.specs.Board as model
+use Rattle.turn_model.specs.Board.{Go, Hold, Rest}
+use Rattle.turn_model.specs.Lists.{leg_by}
+use Rattle.crew_parts.specs.Boards.{Plain, IsBoardOf, the_machine, board_of, spent, state_of, terms_of, told_to}
+use Rattle.crew_parts.specs.Parts.{IsPart, IsPartAdvanced}
+use Rattle.crew_parts.proofs.Laws.{parts_have_unit}
+use Rattle.crew_core.specs.declared.order.Order.{Order}
+use Rattle.crew_core.specs.Orders.{told_of}
+use Rattle.recorded_turns.proofs.Advanced.{legs_advance}
+use Rattle.recorder.specs.Manned.{IsManned, leg_in, still}
+use Rattle.recorder.proofs.Manning.{count_of_still, may_go, order_there, part_of_still}
+use Rattle.round_run.specs.Legs.{Goes, HaveGone, HaveStood, IsReady, MayGo}
+
+-- a run that was not told to go on has no leg
+rests : (p : Plain) (h : ℕ) (r after : Run) → IsPartAdvanced p h 0 r → leg_in p h ≡ 0 → after ≡ r → IsPartAdvanced p h (leg_in p h) after
+rests p h r after is none same = subst (λ n. IsPartAdvanced p h n after) (sym none) (subst (IsPartAdvanced p h 0) (sym same) is)
+
+-- the leg of one hart
+goes_leg : (p : Plain) (h : ℕ) (r after : Run) (order : Option model.Order) → IsBoardOf p → h < p.harts → IsPartAdvanced p h 0 r → told_to p h ≡ order
+    → Goes r after order → IsPartAdvanced p h (leg_in p h) after
+goes_leg p h r after None holds inside is is_told went = rests p h r after is (ap (leg_by the_machine (terms_of p) h (board_of p spent)) is_told) went
+goes_leg p h r after (Some Rest) holds inside is is_told went =
+    rests p h r after is (ap (leg_by the_machine (terms_of p) h (board_of p spent)) is_told) went
+goes_leg p h r after (Some (Hold page g)) holds inside is is_told went =
+    rests p h r after is (ap (leg_by the_machine (terms_of p) h (board_of p spent)) is_told) went
+goes_leg p h r after (Some (Go until)) holds inside is is_told went =
+    let part = part_of_still p h r is in
+    let unit = parts_have_unit p h r holds.whole holds.reached inside part in
+    let leg = went.2 h (state_of p) (subst (λ u. IsCrewState (board u) (state_of p)) (sym unit) holds.crew) part in
+    legs_advance p h until r after went.0 holds.whole holds.reached holds.counts is_told part went.1
+    (subst (λ u. MakesLeg u after went.0 h until (state_of p)) unit leg)
+
+-- the runs of a board, by place
+run_at : (runs : List Run) (h : ℕ) (r : Run) → h < length runs → slice_get runs h ≡ Some (slice_index_or runs h r)
+run_at runs h r less = slice_get-get_or runs h r less
+
+pub all_may_go : (p : Plain) (runs : List Run) (orders : List (Option Order)) → IsBoardOf p → IsManned p runs orders still → MayGo runs orders
+all_may_go p runs orders holds is h r less at =
+    let inside : h < p.harts = (let n = is.number in omega (arith, less, n)) in
+    let order = slice_index_or orders h None in
+    may_go p h r order holds (is.each h r (slice_get_read runs (length runs) h r refl less at))
+    (is.told h order (order_there p runs orders still h h is inside refl) inside)
+
+pub all_ready : (p : Plain) (runs after : List Run) (orders : List (Option Order)) → IsBoardOf p → IsManned p runs orders still → HaveGone runs after orders
+    → IsReady p after orders true
+all_ready p runs after orders holds is gone = record {
+  number = gone.number ∙ is.number;
+  places = is.places;
+  each = λ h x at.
+      let less : h < length runs = (let l = slice_get_within after h x at in let n = gone.number in omega (arith, l, n)) in
+      let inside : h < p.harts = (let n = is.number in omega (arith, less, n)) in
+      let order = slice_index_or orders h None in
+      let went = gone.each h x less in
+      subst (IsPartAdvanced p h (leg_in p h)) (get_or_from_slice_get after h x x at)
+      (goes_leg p h (slice_index_or runs h x) (slice_index_or after h x) (told_of order) holds inside
+      (is.each h (slice_index_or runs h x) (run_at runs h x less)) (is.told h order (order_there p runs orders still h h is inside refl) inside) went);
+  told = is.told;
+}
+
+pub all_stood : (p : Plain) (runs : List Run) (orders : List (Option Order)) (stood : List ℕ) → IsBoardOf p → IsManned p runs orders still
+    → ((h : ℕ) (r : Run) → slice_get runs h ≡ Some r → slice_index stood h ≡ r.count) → HaveStood p stood
+all_stood p runs orders stood holds is at h less =
+    let r = found_at runs h (let n = is.number in omega (arith, n, less)) in
+    at h r.0 r.1 ∙ sym (count_of_still p h r.0 holds (part_of_still p h r.0 (is.each h r.0 r.1)))
+
+-- counts, as far as they are told
+pub record CountsTo (runs : List Run) (counts : List ℕ) (i : ℕ) : Type 0 where
+  pub places : length counts ≡ 8
+  pub so : (h : ℕ) (r : Run) → h < i → slice_get runs h ≡ Some r → slice_index counts h ≡ r.count
+
+pub no_counts : (runs : List Run) (counts : List ℕ) → length counts ≡ 8 → CountsTo runs counts 0
+no_counts runs counts size = record { places = size; so = λ h r less at. absurd (omega (arith, less)) }
+
+pub counts_more : (runs : List Run) (counts : List ℕ) (i n : ℕ) (x : Run) → length runs ≤ 8 → i < length runs → x ≡ slice_index_or runs i x → n ≡ x.count
+    → CountsTo runs counts i → CountsTo runs (slice_set counts i n) (i + 1)
+counts_more runs counts i n x few inside value is are = record {
+  places = length-set counts i n ∙ are.places;
+  so = λ h r less at. elim (eqb_tells h i) [
+    | inl same ↦
+        ap (slice_index (slice_set counts i n)) same.1
+        ∙ get_or_from_slice_get (slice_set counts i n) i n 0 (set_here counts i n (let k = are.places in omega (arith, few, inside, k))) ∙ is
+        ∙ ap (λ (z : Run). z.count)
+        (same_Some _ _ (sym (slice_get_read runs (length runs) i x refl inside value) ∙ ap (slice_get runs) (sym same.1) ∙ at))
+    | inr other ↦ get_or-set_other counts i h n 0 other.1 ∙ are.so h r (let k = other.1 in omega (arith, less, k)) at
+  ];
+}
+
+-- what a slice wrote back
+pub written_back : (n : ℕ) (xs ys : List Run) → length ys ≡ n → length xs ≡ length ys → take n (xs ++ drop (length xs) ys) ≡ xs
+written_back n xs ys size same =
+    take-append-le n xs (drop (length xs) ys) (omega (arith, size, same)) ∙ take_all n xs (omega (arith, size, same))
