@@ -1,0 +1,4 @@
+pub mod Boards
+pub mod Parts
+pub mod Turns
+pub mod Laws
