@@ -17,8 +17,8 @@ use Rattle.board_backing.specs.declared.backing.Backing.{Backing}
 use Rattle.board_backing.specs.Backing.{BacksFirst}
 use Rattle.replay_law.specs.Laws.{IsReplayable, first_replay}
 use Rattle.replay_core.specs.declared.board.ReplayBoard.{ReplayBoard}
-use Rattle.replay_core.specs.declared.stage.Stage.{Stage}
-use Rattle.replay_core.specs.Ends.{HasPlaces}
+use Rattle.replay_core.specs.declared.replaying.Replaying.{Replaying}
+use Rattle.board_backing.specs.Ends.{HasPlaces}
 use Rattle.replay_core.specs.Standing.{AgreeAtFirst, OrdinalsBelow, IsRoomy, Stands, IsAt}
 
 -- what stands in a list with one more at its end
@@ -63,7 +63,7 @@ first_stands image b is range cursor backs roomy = record {
   roomy = roomy;
 }
 
-pub first_at : (image : Image) (log : Log) (stage : Stage) (harts : ℕ) → stage.board.log ≡ log → Stands image stage.board (first_replay log image)
+pub first_at : (image : Image) (log : Log) (stage : Replaying) (harts : ℕ) → stage.board.log ≡ log → Stands image stage.board (first_replay log image)
     → harts ≡ length stage.board.log.streams → length stage.runs.items ≡ harts → AgreeAtFirst image harts stage.runs.items
     → HasPlaces stage.ends harts (length image.bytes) → IsAt image stage (first_replay log image)
 first_at image log stage harts log_is stands many long agree ends =

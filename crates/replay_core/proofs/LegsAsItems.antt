@@ -1,29 +1,27 @@
 -- A leg of a hart up to its first entry left, as items: each Run of it is one.
-use Rattle.std.proofs.Common.{◌≡◌, ◌≢◌, ℕ, zero, suc, ◌+◌, ◌*◌, ◌<◌, ◌≤◌, ◌++◌, not, Bool, true, false, List, [], ◌∷◌, map, length, Option, Some, None}
+use Rattle.std.proofs.Common.{◌≡◌, ◌≢◌, ℕ, zero, suc, ◌+◌, ◌*◌, ◌<◌, ◌≤◌, ◌++◌, Bool, true, false, List, [], ◌∷◌, map, length, Option, Some, None}
 use Rattle.std.proofs.Common.{unwrap_or, true≢false, slice_get, slice_set, slice_index, refl, sym, ap, ap₂, ◌∙◌, subst, arith, if◌then◌else◌, inl, inr}
 use Rattle.std.specs.Prelude.{IsSome, IsTrue}
+use Rattle.std.specs.List.{cons_option}
 use Rattle.std.specs.Option.{option_map}
 use Rattle.std.proofs.lemmas.Bool.{cases_eq, ne_eqb}
 use Rattle.std.proofs.lemmas.Option.{get_or_from_slice_get, slice_get_within, unwrap_or-slice_get}
-use Rattle.shared_types.proofs.Lists.{mapped}
 use Rattle.elf_image.specs.Image.{Image}
 use Rattle.rv_words.specs.declared.shared.Mode.{Mode}
 use Rattle.rv_words.specs.declared.shared.Mode.TheVariants.{Read, Write}
 use Rattle.guest_pages.specs.Pages.{page_of}
 use Rattle.log_entry.specs.declared.log.Entry.{Entry}
 use Rattle.log_entry.specs.declared.log.Log.{Log}
-use Rattle.log_entry.specs.Parts.{conflict, count_of, is_end, unit_of}
-use Rattle.orders_law.specs.Orders.{Leads}
-use Rattle.orders_law.proofs.Totals.{total, total_more}
+use Rattle.log_entry.specs.Parts.{conflict, count_of, unit_of}
+use Rattle.orders_law.specs.Orders.{Leads, total}
+use Rattle.orders_law.proofs.Totals.{total_more}
 use Rattle.order_rules.specs.Cursor.{Cursor, first_left}
 use Rattle.order_rules.specs.Holders.{Holders, held, row}
 use Rattle.flat_machine.specs.State.{FlatState}
-use Rattle.flat_machine.specs.Acts.{next}
-use Rattle.flat_machine.specs.declared.act.Act.TheVariants as act
 use Rattle.flat_machine.specs.declared.results.Step.{Step}
 use Rattle.replay_model.specs.Board.{board}
 use Rattle.replay_model.specs.State.{Replay}
-use Rattle.replay_model.specs.Items.{Ended, Makes, Move, item_at, goes, told_of, made, next_item, step, verdict_on}
+use Rattle.replay_model.specs.Items.{Move, item_at, goes, told_of, next_item, step, story, verdict_on}
 use Rattle.run_model.specs.Run.{Run}
 use Rattle.run_model.specs.Agreement.{Agrees, IsAhead}
 use Rattle.run_model.specs.Legs.{Runs, DifferFor, KeepsPages, MakesLeg}
@@ -32,29 +30,23 @@ use Rattle.run_model.specs.declared.asked.Pause.{Pause}
 use Rattle.board_backing.proofs.Begins.{leg_backs}
 use Rattle.replay_law.specs.Laws.{first_replay}
 use Rattle.replay_core.specs.declared.board.ReplayBoard.{ReplayBoard}
-use Rattle.replay_core.specs.declared.stage.Stage.{Stage}
+use Rattle.replay_core.specs.declared.replaying.Replaying.{Replaying}
 use Rattle.replay_core.specs.Standing.{GoesOn, HasGone, IsAt, IsSame, IsSomewhere, MakesMoves, RunsOn, Stands, left}
-use Rattle.replay_core.proofs.MovesMade.{free_goes, run_counts, runs_count}
+use Rattle.replay_parts.proofs.Led.{made_cursor, move_next, run_counts, runs_count}
+use Rattle.replay_core.proofs.MovesMade.{free_goes}
 use Rattle.replay_core.proofs.ItemsLeft.{within}
 use Rattle.replay_core.proofs.OtherHarts.{set_same}
 use Rattle.replay_core.proofs.StageAfterItem.{stage_to}
 use Rattle.replay_core.proofs.StagesGoOn.{done_is, done_of, less_left, most_done, on_same}
-use Rattle.replay_core.proofs.StateAfterItem.{leads_on, reached, run_unit, store_unit}
+use Rattle.replay_core.proofs.StateAfterItem.{reached, run_unit, store_unit}
+use Rattle.orders_law.proofs.Leads.{leads_on}
 
--- below the count of its first entry left a hart makes a move
-move_next : (n : ℕ) (e : Entry) → n < count_of e → item_at n (Some e) ≡ Move
-move_next n e less =
-    ap (λ b. if not b then Move else if is_end e then Ended else Makes e) (ne_eqb (count_of e) n (λ same. absurd (omega (arith, less, same))))
-
-made_cursor : (u h : ℕ) (s m : Replay FlatState) → made (board u) s h Move ≡ Some m → m.cursor ≡ s.cursor
-made_cursor u h s m is =
-    let f = mapped (λ (f : FlatState). record s { flat = f }) (next (act.Run h) s.flat) m is in ap (λ (z : Replay FlatState). z.cursor) (sym f.2)
-
--- Runs up to that count are steps of the replay
+-- Runs up to the count of the hart's first entry left are steps of the replay
 pub runs_lead : (log : Log) (h n : ℕ) (s t : Replay FlatState) (e : Entry) → first_left log s.cursor h ≡ Some e → h < length s.flat.counts
     → (board (unit_of log)).count t.flat h ≤ count_of e → Runs (board (unit_of log)) h n s t
-    → (made : List (ℕ × Option (List Step))) × Leads (step (board (unit_of log)) log) s made t
-runs_lead log h zero s t e first l within is = ([], is)
+    → (made : List (ℕ × Option (List Step))) × (Leads (step (board (unit_of log)) log) s made t
+    × ((g : ℕ) → g ≢ h → story (board (unit_of log)) log g made ≡ []))
+runs_lead log h zero s t e first l within is = ([], (is, λ g n. refl))
 runs_lead log h (suc n) s t e first l within is =
     let m = is.1.0 in
     let all = runs_count (unit_of log) h (suc n) s t l is in
@@ -68,8 +60,15 @@ runs_lead log h (suc n) s t e first l within is =
     ap (λ i. goes (board (unit_of log)) s h i (verdict_on (board (unit_of log)) s h i)) next ∙ ap (goes (board (unit_of log)) s h Move) is.0
     ∙ ap (option_map (λ (t : Replay FlatState). (t, told_of (board (unit_of log)) s h Move t))) is.1.1 in
     let rest = runs_lead log h n is.1.0 t e (ap (λ c. first_left log c h) (made_cursor (unit_of log) h s is.1.0 is.1.1) ∙ first) (omega (arith, l, size)) within
-    is.1.2 in
-    ((h, told_of (board (unit_of log)) s h Move is.1.0) ∷ rest.0, (is.1.0, did, rest.1))
+    is.1.2 in (
+      (h, told_of (board (unit_of log)) s h Move is.1.0) ∷ rest.0,
+      (
+        (is.1.0, did, rest.1.0),
+        λ g n. ap (λ (b : Bool). cons_option (if b then told_of (board (unit_of log)) s h Move is.1.0 else None) (story (board (unit_of log)) log g rest.0))
+            (ne_eqb h g (λ same. n (sym same)))
+            ∙ rest.1.1 g n,
+      ),
+    )
 
 write_clashes : (m : Option Mode) → IsSome m → conflict (Some Write) m ≡ false → ⊥
 write_clashes None some f = absurd (true≢false (sym some))
@@ -78,7 +77,7 @@ write_clashes (Some Write) some f = true≢false f
 
 -- a leg of hart h from a state at which the board stands
 module _ (image : Image) (b : ReplayBoard) (r new : Run) (h until : ℕ) (pause : Pause) (s : Replay FlatState) (e : Entry) (st : Stands image b s)
-    (a : Agrees r h s) (first : first_left b.log b.cursor h ≡ Some e) (to : until ≡ count_of e) (leg : MakesLeg (unit_of b.log) new pause h until s)
+    (a : Agrees r h s) (first : first_left b.log b.cursor h ≡ Some e) (to : until ≤ count_of e) (leg : MakesLeg (unit_of b.log) new pause h until s)
     (kept : KeepsPages r new) where
   counted : h < length s.flat.counts
   counted = slice_get_within s.flat.counts h r.count a.count
@@ -86,11 +85,14 @@ module _ (image : Image) (b : ReplayBoard) (r new : Run) (h until : ℕ) (pause 
   memory_long : length leg.at.flat.memory ≡ length s.flat.memory
   memory_long = leg.agrees.memory ∙ ap₂ (λ (n : ℕ) (u : ℕ). n * u) kept.number kept.unit_is ∙ sym a.memory
 
+  steps : (made : List (ℕ × Option (List Step))) × (Leads (step (board (unit_of b.log)) b.log) s made leg.at
+      × ((g : ℕ) → g ≢ h → story (board (unit_of b.log)) b.log g made ≡ []))
+  steps =
+      let within = leg.leg.within in
+      runs_lead b.log h leg.leg.moves s leg.at e (ap (λ c. first_left b.log c h) (sym st.cursor) ∙ first) counted (omega (arith, within, to)) leg.leg.runs
+
   pub stands_there : Stands image b leg.at
   stands_there =
-      let within = leg.leg.within in
-      let steps = runs_lead b.log h leg.leg.moves s leg.at e (ap (λ c. first_left b.log c h) (sym st.cursor) ∙ first) counted
-      (omega (arith, within, to)) leg.leg.runs in
       record {
         replayable = st.replayable;
         range = st.range;
@@ -98,7 +100,7 @@ module _ (image : Image) (b : ReplayBoard) (r new : Run) (h until : ℕ) (pause 
         obeys = (
           st.obeys.0 ++ steps.0,
           refl,
-          leads_on (step (board (unit_of b.log)) b.log) (first_replay b.log image) s leg.at st.obeys.0 steps.0 st.obeys.2 steps.1,
+          leads_on (step (board (unit_of b.log)) b.log) (first_replay b.log image) s leg.at st.obeys.0 steps.0 st.obeys.2 steps.1.0,
         );
         cursor = st.cursor ∙ sym leg.others.cursor;
         backs = leg_backs b.backing h s leg.at st.backs (subst (λ u. DifferFor u h s leg.at) (sym (store_unit image b s st)) leg.others) memory_long;
@@ -143,23 +145,30 @@ module _ (image : Image) (b : ReplayBoard) (r new : Run) (h until : ℕ) (pause 
         (ap (λ x. verdict_on (board (unit_of b.log)) x h Move) (sym is) ∙ free_goes (unit_of b.log) s h asks))
     by (suc n) is same = let c = runs_count (unit_of b.log) h (suc n) s leg.at counted is in omega (arith, c, own, then_own)
 
-  pub runs_on : IsAhead (unit_of b.log) h s ahead.Free → r.count < until → RunsOn image b r new h s
-  runs_on asks less = record {
+  pub runs_on : IsAhead (unit_of b.log) h s ahead.Free → r.count < until → (most : ℕ) → until ≤ most → RunsOn image b r new h most s
+  runs_on asks less most low = record {
     at = leg.at;
+    made = steps.0;
+    leads = steps.1.0;
+    alone = steps.1.1;
     stands = stands_there;
     agrees = leg.agrees;
     others = others_stay;
     counts = λ g n. sym (unwrap_or-slice_get leg.at.flat.counts g 0) ∙ ap (λ o. unwrap_or o 0) (leg.others.counts g n) ∙ unwrap_or-slice_get s.flat.counts g 0;
     more = moves_on asks less;
+    within =
+        let top = leg.leg.within in
+        let own : slice_index leg.at.flat.counts h ≡ new.count = get_or_from_slice_get leg.at.flat.counts h new.count 0 leg.agrees.count in
+        omega (arith, top, own, low);
   }
 
 -- a stage behind a leg of one of its harts
-module _ (old new : Stage) (h : ℕ) (was r : Run) (there : slice_get old.runs.items h ≡ Some was) (makes : MakesMoves old.board was r h)
+module _ (old new : Replaying) (h most : ℕ) (was r : Run) (there : slice_get old.runs.items h ≡ Some was) (makes : MakesMoves old.board was r h most)
     (board_is : new.board ≡ old.board) (runs_are : new.runs.items ≡ slice_set old.runs.items h r) (ends_are : new.ends ≡ old.ends) where
-  moved_on : (image : Image) (s : Replay FlatState) → (at : IsAt image old s) → RunsOn image old.board was r h s
+  pub moved_on : (image : Image) (s : Replay FlatState) → (at : IsAt image old s) → RunsOn image old.board was r h most s
   moved_on image s at = makes image s at.stands (at.agree h was there)
 
-  then_at : (image : Image) (s : Replay FlatState) → (at : IsAt image old s) → IsAt image new (moved_on image s at).at
+  pub then_at : (image : Image) (s : Replay FlatState) → (at : IsAt image old s) → IsAt image new (moved_on image s at).at
   then_at image s at =
       let m = moved_on image s at in
       stage_to image old new r was h s m.at at there (subst (λ b. Stands image b (moved_on image s at).at) (sym board_is) m.stands) m.agrees m.others
@@ -201,14 +210,15 @@ module _ (old new : Stage) (h : ℕ) (was r : Run) (there : slice_get old.runs.i
       (omega (arith, counts, places, old_done, new_done)) (omega (arith, most, new_done))
 
 -- a stage behind what may be a leg
-pub leg_or_same : (ran : Bool) (old new : Stage) (h : ℕ) (was r : Run) → slice_get old.runs.items h ≡ Some was → (IsTrue ran → MakesMoves old.board was r h)
+pub leg_or_same : (ran : Bool) (old new : Replaying) (h most : ℕ) (was r : Run) → slice_get old.runs.items h ≡ Some was
+    → (IsTrue ran → MakesMoves old.board was r h most)
     → (ran ≡ false → r ≡ was) → new.board ≡ old.board → new.runs.items ≡ slice_set old.runs.items h r → new.ends ≡ old.ends → IsSomewhere old
     → GoesOn old new × HasGone ran old new
-leg_or_same true old new h was r there makes still board_is runs_are ends_are x = (
-  leg_on old new h was r there (makes refl) board_is runs_are ends_are,
-  leg_less old new h was r there (makes refl) board_is runs_are ends_are x,
+leg_or_same true old new h most was r there makes still board_is runs_are ends_are x = (
+  leg_on old new h most was r there (makes refl) board_is runs_are ends_are,
+  leg_less old new h most was r there (makes refl) board_is runs_are ends_are x,
 )
-leg_or_same false old new h was r there makes still board_is runs_are ends_are x =
+leg_or_same false old new h most was r there makes still board_is runs_are ends_are x =
     let same : IsSame old new =
     (board_is, (runs_are ∙ ap (slice_set old.runs.items h) (still refl) ∙ set_same old.runs.items h was there, ends_are)) in
     (on_same old new same, same)

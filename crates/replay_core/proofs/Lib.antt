@@ -8,7 +8,6 @@ pub mod OtherHarts
 pub mod StageAfterItem
 pub mod EndsTell
 pub mod FirstStage
-pub mod GatheredMemory
 pub mod Verdicts
 pub mod ItemsLeft
 pub mod OutcomeAtEnd
@@ -16,3 +15,7 @@ pub mod StagesGoOn
 pub mod OutcomesTold
 pub mod EndLists
 pub mod LegsAsItems
+pub mod AlongLists
+pub mod MovesTold
+pub mod NotesKept
+pub mod StoriesTold

@@ -1,31 +1,25 @@
 -- A move without device access, as an item.
-use Rattle.std.proofs.Common.{◌≡◌, ◌≢◌, ℕ, zero, suc, ◌+◌, ◌*◌, ◌<◌, ◌≤◌, ◌^◌, Bool, true, false, cond, [], ◌∷◌, length, Option, Some, None}
-use Rattle.std.proofs.Common.{is_some, slice_get, slice_set, slice_index, refl, sym, ap, ap₂, ◌∙◌, subst, arith}
-use Rattle.std.proofs.lemmas.List.{length-set}
-use Rattle.std.proofs.lemmas.Option.{get_or_from_slice_get, none-some, same_Some}
+use Rattle.std.proofs.Common.{◌≡◌, ◌≢◌, ℕ, zero, suc, ◌+◌, ◌*◌, ◌<◌, ◌≤◌, ◌^◌, [], ◌∷◌, length, Option, Some}
+use Rattle.std.proofs.Common.{is_some, slice_index, refl, sym, ap, ap₂, ◌∙◌, subst, arith}
+use Rattle.std.proofs.lemmas.Option.{get_or_from_slice_get}
 use Rattle.elf_image.specs.Image.{Image}
 use Rattle.rv_words.specs.declared.shared.Mode.{Mode}
-use Rattle.rv_hart.specs.Moves.{need_of}
 use Rattle.log_order.proofs.Refusals.{small}
 use Rattle.log_entry.specs.Parts.{unit_of}
 use Rattle.flat_machine.specs.State.{FlatState}
-use Rattle.flat_machine.specs.Acts.{next, ran, moved_by}
-use Rattle.flat_machine.specs.Moves.{next_move, access_of, loaded_for}
-use Rattle.flat_machine.specs.declared.act.Act.TheVariants as act
 use Rattle.replay_model.specs.Board.{board, hart_access}
 use Rattle.replay_model.specs.State.{Replay, IsCrewState}
 use Rattle.replay_model.specs.Items.{Move, CanGo, HasDiverged, verdict_on, made}
-use Rattle.shared_types.proofs.Lists.{bound_to, mapped}
 use Rattle.run_model.specs.Run.{Run}
 use Rattle.run_model.specs.Agreement.{Agrees, IsAhead}
 use Rattle.run_model.specs.declared.asked.Ahead.TheVariants as ahead
 use Rattle.run_model.specs.declared.asked.Pause.{Pause}
 use Rattle.run_model.specs.Legs.{Runs, DifferFor, KeepsPages, MakesLeg}
 use Rattle.std.proofs.lemmas.Option.{slice_get_within}
-use Rattle.shared_types.proofs.Lists.{set_here}
 use Rattle.hart_run.specs.Calls.{LegAgrees}
 use Rattle.board_backing.proofs.Begins.{leg_backs}
 use Rattle.replay_law.proofs.Verdicts.{judge}
+use Rattle.replay_parts.proofs.Led.{runs_count}
 use Rattle.replay_core.specs.declared.board.ReplayBoard.{ReplayBoard}
 use Rattle.replay_core.specs.declared.went.Went.TheVariants as went
 use Rattle.replay_core.specs.Standing.{Stands, Goes, item_of}
@@ -56,37 +50,6 @@ count_low image b r h s st a =
     let count = e.count in
     let own : slice_index s.flat.counts h ≡ r.count = get_or_from_slice_get s.flat.counts h r.count 0 a.count in
     omega (arith, most, low, count, own)
-
-ran_counts : (h : ℕ) (s f y : FlatState) (b : Bool) → y.counts ≡ slice_set s.counts h (slice_index s.counts h + 1) → cond b None (Some y) ≡ Some f
-    → f.counts ≡ slice_set s.counts h (slice_index s.counts h + 1)
-ran_counts h s f y true is did = absurd (none-some _ did)
-ran_counts h s f y false is did = ap (λ (z : FlatState). z.counts) (sym (same_Some _ _ did)) ∙ is
-
--- a Run counts
-pub run_counts : (u h : ℕ) (s t : Replay FlatState) → h < length s.flat.counts → made (board u) s h Move ≡ Some t
-    → ((board u).count t.flat h ≡ (board u).count s.flat h + 1) × (length t.flat.counts ≡ length s.flat.counts)
-run_counts u h s t l did =
-    let m = mapped (λ (f : FlatState). record s { flat = f }) (next (act.Run h) s.flat) t did in
-    let b = bound_to (λ x. ran s.flat h x (next_move x s.flat.memory)) (slice_get s.flat.harts h) m.0 m.1 in
-    let after : FlatState = moved_by s.flat h b.0 (next_move b.0 s.flat.memory) (loaded_for s.flat.memory (need_of (next_move b.0 s.flat.memory))) in
-    let f_counts : m.0.counts ≡ slice_set s.flat.counts h (slice_index s.flat.counts h + 1) =
-    ran_counts h s.flat m.0 after (is_some (access_of (need_of (next_move b.0 s.flat.memory)))) refl b.2 in
-    let counts : t.flat.counts ≡ slice_set s.flat.counts h (slice_index s.flat.counts h + 1) =
-    ap (λ (z : Replay FlatState). z.flat.counts) (sym m.2) ∙ f_counts in (
-      ap (λ xs. slice_index xs h) counts
-          ∙ get_or_from_slice_get (slice_set s.flat.counts h (slice_index s.flat.counts h + 1)) h (slice_index s.flat.counts h + 1) 0
-          (set_here s.flat.counts h (slice_index s.flat.counts h + 1) l),
-      ap length counts ∙ length-set s.flat.counts h (slice_index s.flat.counts h + 1),
-    )
-
-pub runs_count : (u h n : ℕ) (s t : Replay FlatState) → h < length s.flat.counts → Runs (board u) h n s t → (board u).count t.flat h
-    ≡ (board u).count s.flat h + n
-runs_count u h zero s t l is = let z = ap (λ (x : Replay FlatState). (board u).count x.flat h) is in omega (arith, z)
-runs_count u h (suc n) s t l is =
-    let one = run_counts u h s is.1.0 l is.1.1 in
-    let size = one.1 in
-    let first = one.0 in
-    let rest = runs_count u h n is.1.0 t (omega (arith, l, size)) is.1.2 in omega (arith, first, rest)
 
 -- a leg of one count from where a Run can go is that Run
 one_run : (u h n : ℕ) (s t : Replay FlatState) → h < length s.flat.counts → Runs (board u) h n s t → (board u).count t.flat h ≤ (board u).count s.flat h + 1

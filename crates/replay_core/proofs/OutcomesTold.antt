@@ -1,5 +1,5 @@
 -- What a stage at which no hart can go comes to, as it is told.
-use Rattle.std.proofs.Common.{◌≡◌, inl, inr, ℕ, ◌+◌, map, ◌<◌, ◌==◌, ◌&&◌, not, Bool, true, false, List, length, Option, Some, None, slice_get}
+use Rattle.std.proofs.Common.{◌≡◌, inl, inr, ℕ, ◌+◌, ◌<◌, ◌==◌, ◌&&◌, not, Bool, true, false, length, Option, Some, None, slice_get}
 use Rattle.std.proofs.Common.{is_some, refl, sym, ap, ap₂, ◌∙◌, subst, arith, if◌then◌else◌}
 use Rattle.std.specs.List.{list_all}
 use Rattle.std.specs.Option.{option_map}
@@ -20,24 +20,22 @@ use Rattle.replay_model.specs.State.{Replay}
 use Rattle.replay_model.specs.Items.{next_item, verdict}
 use Rattle.replay_model.specs.Outcome.{Done, Diverged, is_stop, is_limit, same, rule_of, diverged, outcome_at}
 use Rattle.run_model.specs.Run.{Run}
-use Rattle.replay_core.specs.declared.stage.Stage.{Stage}
+use Rattle.replay_core.specs.declared.replaying.Replaying.{Replaying}
 use Rattle.replay_core.specs.declared.went.Went.{Went}
 use Rattle.replay_core.specs.declared.outcome.Outcome.{Outcome as Told}
 use Rattle.replay_core.specs.declared.outcome.Outcome.TheVariants as told
 use Rattle.replay_core.specs.Items.{IsStill, IsStuck, rule_in}
-use Rattle.replay_core.specs.Ends.{IsFirstOf, IsMemory, IsOutcomeOf}
+use Rattle.replay_core.specs.Ends.{IsFirstOf, IsOutcomeOf}
 use Rattle.replay_core.specs.Standing.{IsAt, IsSame, IsSomewhere, AnswersAt, CanGoNowhere, FindsDiverged, IsUndiverged, TellsDiverged, AgreesOnCause}
 use Rattle.replay_core.specs.Standing.{ComesTo, EndsAt}
 use Rattle.replay_core.proofs.OutcomeAtEnd.{divergence, diverged_comes, each_below, ended_comes}
-use Rattle.rv_hart.specs.State.{Hart}
-use Rattle.replay_core.proofs.EndLists.{stage_has}
-use Rattle.replay_core.proofs.StateAfterItem.{reached}
-use Rattle.replay_core.proofs.StagesGoOn.{all_mapped, counts_are, same_at, same_back, same_log}
+use Rattle.replay_core.proofs.StagesGoOn.{same_at, same_back, same_log}
 use Rattle.replay_core.proofs.EndsTell.{ends_tell}
-use Rattle.replay_core.proofs.Verdicts.{first_found, none_answers, none_found, no_rule_in, rule_is, still}
+use Rattle.replay_core.proofs.Verdicts.{first_found, none_found, rule_is, still}
+use Rattle.replay_ends.proofs.Outcomes.{no_answers, no_rule}
 
 -- a stage at which no hart can go, by the answer of a hart
-module _ (stage : Stage) (h : ℕ) (answer : Went) (stuck : CanGoNowhere stage) (answers : AnswersAt stage h answer) where
+module _ (stage : Replaying) (h : ℕ) (answer : Went) (stuck : CanGoNowhere stage) (answers : AnswersAt stage h answer) where
   pub nothing_made : IsSomewhere stage → h < length stage.board.log.streams → IsStill answer
   nothing_made x l =
       let log = stage.board.log in
@@ -62,7 +60,7 @@ module _ (stage : Stage) (h : ℕ) (answer : Went) (stuck : CanGoNowhere stage) 
       (ap (option_map (λ k. (h, k))) (sym (rule_told image s at l) ∙ is))
       (λ g m. ap (option_map (λ k. (g, k))) (none g m image s at))
 
-pub none_of_all : (stage : Stage) → ((g : ℕ) → g < length stage.board.log.streams → IsUndiverged stage g) → FindsDiverged stage None
+pub none_of_all : (stage : Replaying) → ((g : ℕ) → g < length stage.board.log.streams → IsUndiverged stage g) → FindsDiverged stage None
 none_of_all stage none image s at =
     none_found (divergence stage.board.log s) (length stage.board.log.streams) (λ g m. ap (option_map (λ k. (g, k))) (none g m image s at))
 
@@ -72,7 +70,7 @@ same_tests true b on back = sym (on refl)
 same_tests false true on back = back refl
 same_tests false false on back = refl
 
-pub limits_are : (image : Image) (stage : Stage) (s : Replay FlatState) → IsAt image stage s
+pub limits_are : (image : Image) (stage : Replaying) (s : Replay FlatState) → IsAt image stage s
     → list_all (λ (r : Run). r.count == stage.board.log.limit) stage.runs.items
     ≡ list_all (λ h. (board (unit_of stage.board.log)).count s.flat h == stage.board.log.limit) (harts stage.board.log)
 limits_are image stage s at =
@@ -92,7 +90,7 @@ limits_are image stage s at =
     of_hart : ℕ → Bool
     of_hart h = (board (unit_of stage.board.log)).count s.flat h == stage.board.log.limit
 
-pub cause_is : (stage : Stage) (cause : Cause) (stopped at_limit agrees : Bool)
+pub cause_is : (stage : Replaying) (cause : Cause) (stopped at_limit agrees : Bool)
     → agrees ≡ (same (is_stop cause) stopped && same (is_limit cause) (not stopped && at_limit)) → cause ≡ stage.board.log.cause
     → stopped ≡ is_some stage.board.backing.devices.devices.stop → at_limit ≡ list_all (λ (r : Run). r.count == stage.board.log.limit) stage.runs.items
     → AgreesOnCause stage agrees
@@ -102,7 +100,7 @@ cause_is stage cause stopped at_limit agrees is cause_same stop all image s at =
     (stop ∙ ap (λ (d : Devices). is_some d.stop) at.stands.backs.devices_are) (all ∙ limits_are image stage s at)
 
 -- what is told
-diverged_told : (image : Image) (stage : Stage) (s : Replay FlatState) (hart why : ℕ) (answer : Told) → IsAt image stage s → CanGoNowhere stage
+diverged_told : (image : Image) (stage : Replaying) (s : Replay FlatState) (hart why : ℕ) (answer : Told) → IsAt image stage s → CanGoNowhere stage
     → outcome_at (board (unit_of stage.board.log)) stage.board.log s ≡ Some (Diverged hart ((board (unit_of stage.board.log)).count s.flat hart) why s.flat)
     → TellsDiverged stage hart why answer → IsOutcomeOf stage.board.log image answer
 diverged_told image stage s hart why answer at stuck comes told = (
@@ -110,54 +108,54 @@ diverged_told image stage s hart why answer at stuck comes told = (
   (ends_tell image stage s (Diverged hart ((board (unit_of stage.board.log)).count s.flat hart) why s.flat) at (stuck image s at) comes, told image s at),
 )
 
-pub tells_first : (stage : Stage) (hart why : ℕ) (answer : Told) → CanGoNowhere stage → FindsDiverged stage (Some (hart, why))
+pub tells_first : (stage : Replaying) (hart why : ℕ) (answer : Told) → CanGoNowhere stage → FindsDiverged stage (Some (hart, why))
     → TellsDiverged stage hart why answer
     → ComesTo stage answer
 tells_first stage hart why answer stuck found told image s at =
     let first = found image s at in
     diverged_told image stage s hart why answer at stuck (diverged_comes stage.board.log s hart why first.0 first.1) told
 
-ended : (image : Image) (stage : Stage) (s : Replay FlatState) (agrees : Bool) → IsAt image stage s → CanGoNowhere stage → FindsDiverged stage None
+ended : (image : Image) (stage : Replaying) (s : Replay FlatState) (agrees : Bool) → IsAt image stage s → CanGoNowhere stage → FindsDiverged stage None
     → AgreesOnCause stage agrees → outcome_at (board (unit_of stage.board.log)) stage.board.log s
     ≡ Some (if agrees then Done s.flat else Diverged 0 ((board (unit_of stage.board.log)).count s.flat 0) 7 s.flat)
 ended image stage s agrees at stuck found cause =
     let st = at.stands in
     ended_comes stage.board.log s image at.stands.order at.stands.replayable.orderly at.stands.obeys (stuck image s at)
-    (λ h l. no_rule_in h (rule_of (verdict (board (unit_of stage.board.log)) stage.board.log s h))
-    (none_answers (divergence stage.board.log s) (length stage.board.log.streams) (found image s at) h l))
+    (λ h l. no_rule h (rule_of (verdict (board (unit_of stage.board.log)) stage.board.log s h))
+    (no_answers (divergence stage.board.log s) (length stage.board.log.streams) (found image s at) h l))
     agrees (sym (cause image s at))
 
-pub tells_cause : (stage : Stage) (answer : Told) → CanGoNowhere stage → FindsDiverged stage None → AgreesOnCause stage false → TellsDiverged stage 0 7 answer
+pub tells_cause : (stage : Replaying) (answer : Told) → CanGoNowhere stage → FindsDiverged stage None → AgreesOnCause stage false → TellsDiverged stage 0 7 answer
     → ComesTo stage answer
 tells_cause stage answer stuck found cause told image s at =
     diverged_told image stage s 0 7 answer at stuck (ended image stage s false at stuck found cause) told
 
-pub tells_done : (stage : Stage) (end : Final) → CanGoNowhere stage → FindsDiverged stage None → AgreesOnCause stage true → EndsAt stage end
+pub tells_done : (stage : Replaying) (end : Final) → CanGoNowhere stage → FindsDiverged stage None → AgreesOnCause stage true → EndsAt stage end
     → ComesTo stage (told.Done end)
 tells_done stage end stuck found cause is image s at =
     (Done s.flat, (ends_tell image stage s (Done s.flat) at (stuck image s at) (ended image stage s true at stuck found cause), ap told.Done (is image s at)))
 
 -- and of a stage that is the same
-pub comes_back : (old new : Stage) (answer : Told) → IsSame old new → ComesTo new answer → ComesTo old answer
+pub comes_back : (old new : Replaying) (answer : Told) → IsSame old new → ComesTo new answer → ComesTo old answer
 comes_back old new answer is comes image s at =
     subst (λ log. IsOutcomeOf log image answer) (same_log old new is) (comes image s (same_at image old new s is at))
 
-pub stuck_on : (old new : Stage) → IsSame old new → CanGoNowhere old → CanGoNowhere new
+pub stuck_on : (old new : Replaying) → IsSame old new → CanGoNowhere old → CanGoNowhere new
 stuck_on old new is stuck image s at =
     subst (λ log. IsStuck log s) (sym (same_log old new is)) (stuck image s (same_at image new old s (same_back old new is) at))
 
-pub found_on : (old new : Stage) (found : Option (ℕ × ℕ)) → IsSame old new → FindsDiverged old found → FindsDiverged new found
+pub found_on : (old new : Replaying) (found : Option (ℕ × ℕ)) → IsSame old new → FindsDiverged old found → FindsDiverged new found
 found_on old new found is finds image s at =
     subst (λ log. IsFirstOf found (diverged (board (unit_of log)) log s)) (sym (same_log old new is))
     (finds image s (same_at image new old s (same_back old new is) at))
 
-undiverged_on : (old new : Stage) (h : ℕ) → IsSame old new → IsUndiverged old h → IsUndiverged new h
+undiverged_on : (old new : Replaying) (h : ℕ) → IsSame old new → IsUndiverged old h → IsUndiverged new h
 undiverged_on old new h is none image s at =
     subst (λ log. rule_of (verdict (board (unit_of log)) log s h) ≡ None) (sym (same_log old new is))
     (none image s (same_at image new old s (same_back old new is) at))
 
 -- a stage at which no hart can go, and one that is the same, with the answer of a hart there
-module _ (old now : Stage) (h : ℕ) (answer : Went) (is : IsSame old now) (stuck : CanGoNowhere old) (answers : AnswersAt now h answer)
+module _ (old now : Replaying) (h : ℕ) (answer : Went) (is : IsSame old now) (stuck : CanGoNowhere old) (answers : AnswersAt now h answer)
     (there : h < length old.board.log.streams) where
   now_there : h < length now.board.log.streams
   now_there = subst (λ log. h < length log.streams) (sym (same_log old now is)) there
@@ -179,25 +177,7 @@ module _ (old now : Stage) (h : ℕ) (answer : Went) (is : IsSame old now) (stuc
     | inr d ↦ none g (omega (arith, less, d))
   ]
 
--- the end of a stage
-pub end_is : (image : Image) (stage : Stage) (s : Replay FlatState) (cause : Cause) (stop : Option ℕ) (all : List Hart) (counts memory sent : List ℕ) (time : ℕ)
-    → IsAt image stage s → cause ≡ stage.board.log.cause → stop ≡ stage.board.backing.devices.devices.stop
-    → all ≡ map (λ (r : Run). r.hart) stage.runs.items → counts ≡ map (λ (r : Run). r.count) stage.runs.items
-    → IsMemory stage.runs.items stage.board.backing memory → sent ≡ stage.board.backing.devices.devices.sent
-    → time ≡ stage.board.backing.devices.devices.mtime
-    → record { cause = cause; stop = stop; harts = all; counts = counts; memory = memory; sent = sent; time = time } ≡ final_of s.flat stage.board.log.cause
-end_is image stage s cause stop all counts memory sent time at cause_same stop_is all_are counts_as memory_is sent_is time_is =
-    let d = at.stands.backs.devices_are in
-    let sized = (reached image stage.board s at.stands).going.good.sound.sized in
-    let w = stop_is ∙ ap (λ (z : Devices). z.stop) d in
-    let a = all_are ∙ all_mapped (λ (r : Run). r.hart) stage.runs.items s.flat.harts (at.runs ∙ sym sized.harts_size) (λ h r is. (at.agree h r is).hart) in
-    let c = counts_as ∙ counts_are image stage s at in
-    let m = memory_is s (stage_has image stage s at) in
-    let b = sent_is ∙ ap (λ (z : Devices). z.sent) d in
-    let t = time_is ∙ ap (λ (z : Devices). z.mtime) d in
-    λ i. record { cause = cause_same i; stop = w i; harts = a i; counts = c i; memory = m i; sent = b i; time = t i }
-
-pub told_at : (image : Image) (stage : Stage) (s : Replay FlatState) (hart why count : ℕ) (end : Final) (r : Run) → IsAt image stage s
+pub told_at : (image : Image) (stage : Replaying) (s : Replay FlatState) (hart why count : ℕ) (end : Final) (r : Run) → IsAt image stage s
     → slice_get stage.runs.items hart ≡ Some r → count ≡ r.count → end ≡ final_of s.flat stage.board.log.cause
     → told.Diverged hart count why end
     ≡ told.Diverged hart ((board (unit_of stage.board.log)).count s.flat hart) why (final_of s.flat stage.board.log.cause)

@@ -11,12 +11,12 @@ use Rattle.run_model.specs.Run.{Run}
 use Rattle.run_model.specs.Agreement.{Agrees}
 use Rattle.std.proofs.lemmas.Option.{slice_get_within}
 use Rattle.shared_types.proofs.Lists.{set_here, set_there}
-use Rattle.replay_core.specs.declared.stage.Stage.{Stage}
+use Rattle.replay_core.specs.declared.replaying.Replaying.{Replaying}
 use Rattle.replay_core.specs.declared.went.Went.{Went}
 use Rattle.replay_core.specs.Items.{after}
 use Rattle.rv_words.specs.Limits.{page_bytes}
-use Rattle.replay_core.specs.declared.ends.Ends.{Ends}
-use Rattle.replay_core.specs.Ends.{HasPlaces}
+use Rattle.board_backing.specs.declared.ends.Ends.{Ends}
+use Rattle.board_backing.specs.Ends.{HasPlaces}
 use Rattle.replay_core.specs.Standing.{Goes, Stands, IsAt}
 use Rattle.replay_core.proofs.StateAfterItem.{reached}
 use Rattle.replay_core.proofs.OtherHarts.{others_after}
@@ -29,14 +29,14 @@ places_on old new n m k j is number bytes has = record {
 }
 
 -- the memory is as long in each state
-memory_on : (image : Image) (old new : Stage) (s t : Replay FlatState) → Stands image old.board s → Stands image new.board t → new.board.log ≡ old.board.log
+memory_on : (image : Image) (old new : Replaying) (s t : Replay FlatState) → Stands image old.board s → Stands image new.board t → new.board.log ≡ old.board.log
     → length t.flat.memory ≡ length s.flat.memory
 memory_on image old new s t one two log_is =
     (reached image new.board t two).going.good.sound.sized.memory_size ∙ ap (λ (l : Log). page_bytes * l.pages) log_is
     ∙ sym (reached image old.board s one).going.good.sound.sized.memory_size
 
 -- a stage once the run of a hart has gone on from one of its states to another
-pub stage_to : (image : Image) (old new : Stage) (r was : Run) (h : ℕ) (s t : Replay FlatState) → IsAt image old s → slice_get old.runs.items h ≡ Some was
+pub stage_to : (image : Image) (old new : Replaying) (r was : Run) (h : ℕ) (s t : Replay FlatState) → IsAt image old s → slice_get old.runs.items h ≡ Some was
     → Stands image new.board t → Agrees r h t → ((g : ℕ) (q : Run) → g ≢ h → Agrees q g s → Agrees q g t)
     → new.board.log ≡ old.board.log → new.runs.items ≡ slice_set old.runs.items h r → new.ends ≡ old.ends → IsAt image new t
 stage_to image old new r was h s t at there stands agrees others log_is runs_is ends_is =
@@ -56,7 +56,7 @@ stage_to image old new r was h s t at there stands agrees others log_is runs_is 
           at.ends;
     }
 
-pub stage_at : (image : Image) (old new : Stage) (r was : Run) (h : ℕ) (s : Replay FlatState) (answer : Went) → IsAt image old s
+pub stage_at : (image : Image) (old new : Replaying) (r was : Run) (h : ℕ) (s : Replay FlatState) (answer : Went) → IsAt image old s
     → slice_get old.runs.items h ≡ Some was → Goes image new.board r old.board.log h s answer
     → new.board.log ≡ old.board.log → new.runs.items ≡ slice_set old.runs.items h r → new.ends ≡ old.ends → IsAt image new (after old.board.log h s)
 stage_at image old new r was h s answer at there goes log_is runs_is ends_is =

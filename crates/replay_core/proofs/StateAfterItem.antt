@@ -9,7 +9,6 @@ use Rattle.log_entry.specs.declared.log.Entry.{Entry}
 use Rattle.rv_words.specs.Limits.{page_bytes}
 use Rattle.log_entry.specs.Parts.{unit_of, units_of}
 use Rattle.log_entry.specs.declared.log.Log.{Log}
-use Rattle.orders_law.specs.Orders.{Leads}
 use Rattle.order_rules.specs.Cursor.{Cursor, first_left, taken}
 use Rattle.flat_machine.specs.State.{FlatState}
 use Rattle.flat_machine.specs.declared.results.Step.{Step}
@@ -30,11 +29,7 @@ use Rattle.replay_core.specs.declared.went.Went.{Went}
 use Rattle.replay_core.specs.declared.went.Went.TheVariants as went
 use Rattle.replay_core.specs.Items.{went_of, after}
 use Rattle.replay_core.specs.Standing.{IsRoomy, Stands, Goes, item_of}
-
-pub leads_on : {S E : Type 0} (step : ℕ → S → Option (S × E)) (r m s : S) (xs ys : List (ℕ × E)) → Leads step r xs m → Leads step m ys s
-    → Leads step r (xs ++ ys) s
-leads_on step r m s [] ys one two = subst (λ z. Leads step z ys s) (sym one) two
-leads_on step r m s (x ∷ xs) ys one two = (one.0, one.1, leads_on step one.0 m s xs ys one.2 two)
+use Rattle.orders_law.proofs.Leads.{leads_on}
 
 pub reached : (image : Image) (b : ReplayBoard) (s : Replay FlatState) → (st : Stands image b s) → Timely b.log image st.replayable s
 reached image b s st = timely b.log image st.replayable s st.obeys.0 st.obeys.2

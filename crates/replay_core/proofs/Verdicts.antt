@@ -2,9 +2,7 @@
 use Rattle.std.proofs.Common.{◌≡◌, ◌≢◌, inl, inr, ℕ, zero, suc, ◌<◌, List, [], ◌∷◌, ◌++◌, Option, Some, None, refl, sym, ap, ap₂, ◌∙◌, arith}
 use Rattle.std.specs.List.{filter_map, cons_option}
 use Rattle.std.proofs.lemmas.List.Elements.{filter_map-append}
-use Rattle.std.specs.Option.{option_map}
 use Rattle.std.proofs.lemmas.Bool.{cases_eq}
-use Rattle.std.proofs.lemmas.Option.{none-some}
 use Rattle.orders_law.specs.Orders.{below}
 use Rattle.replay_model.specs.Items.{Item, Verdict, HasEnded, Holds, CanGo, HasDiverged}
 use Rattle.replay_model.specs.Outcome.{rule_of}
@@ -43,25 +41,3 @@ module _ {X : Type 0} (f : ℕ → Option X) where
         let rest = first_found n h x (omega (arith, l, d)) is none in
         (rest.0 ++ filter_map f (n ∷ []), filter_map-append f (below n) (n ∷ []) ∙ ap (λ (xs : List X). xs ++ filter_map f (n ∷ [])) rest.1)
   ]
-
-empty_parts : {X : Type 0} (xs ys : List X) → xs ++ ys ≡ [] → (xs ≡ []) × (ys ≡ [])
-empty_parts [] ys e = (refl, e)
-empty_parts (x ∷ xs) ys e = let bad : ⊥ = cc in absurd bad
-
-no_answer : {X : Type 0} (o : Option X) → cons_option o [] ≡ [] → o ≡ None
-no_answer None e = refl
-no_answer (Some x) e = let bad : ⊥ = cc in absurd bad
-
--- where there are no answers none of the numbers has one
-pub none_answers : {X : Type 0} (f : ℕ → Option X) (n : ℕ) → filter_map f (below n) ≡ [] → (i : ℕ) → i < n → f i ≡ None
-none_answers f zero e i l = absurd (omega (arith, l))
-none_answers f (suc n) e i l =
-    let both = empty_parts (filter_map f (below n)) (filter_map f (n ∷ [])) (sym (filter_map-append f (below n) (n ∷ [])) ∙ e) in
-    elim (cases_eq i n) [
-      | inl same ↦ ap f same ∙ no_answer (f n) both.1
-      | inr d ↦ none_answers f n both.0 i (omega (arith, l, d))
-    ]
-
-pub no_rule_in : (h : ℕ) (o : Option ℕ) → option_map {U = ℕ × ℕ} (λ rule. (h, rule)) o ≡ None → o ≡ None
-no_rule_in h None e = refl
-no_rule_in h (Some k) e = absurd (none-some _ (sym e))

@@ -240,17 +240,17 @@ impl ReplayBoard {
         Went::Entry
     }
 
-    /// The moves of the hart whose run this is, as many as it can make up to the count of its first entry left.
-    /// Whether it made any.
-    pub(crate) fn run_on(&self, run: &mut HartRun, hart: u8) -> bool
+    /// The moves of the hart whose run this is, as many as it can make up to the count of its first entry left and to
+    /// this one. Whether it made any.
+    pub(crate) fn run_on(&self, run: &mut HartRun, hart: u8, most: u64) -> bool
         requires { IsTied self.now run.old hart }
-        ensures made { IsTrue result → MakesMoves self.now run.old run.new hart }
+        ensures made { IsTrue result → MakesMoves self.now run.old run.new hart most }
         ensures still { result ≡ false → run.new ≡ run.old }
     {
         let Some(entry) = self.cursor.first_left(self.log.log(), usize::from(hart)) else {
             return false;
         };
-        let until = count_of(entry);
+        let until = count_of(entry).min(most);
         if run.count() >= until {
             return false;
         }

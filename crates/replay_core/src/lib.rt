@@ -1,28 +1,32 @@
 //! Replay of an orderly log, one item after the other (docs/replay.md).
 #![tactic(auto)]
 
-ghost use Rattle.replay_core.specs.Laws.{EndsTellOutcome};
+ghost use Rattle.replay_core.specs.Laws.{EndsAreLeast, EndsTellOutcome};
 
 mod board;
 mod cursor;
-mod ends;
+mod list;
+mod notes;
 mod outcome;
-mod replay;
+mod replaying;
 mod room;
 mod runs;
 mod stage;
 mod suits;
+mod telling;
 #[cfg(test)]
 mod tests;
 mod went;
 
+pub use list::replay_list;
 pub use outcome::Outcome;
-pub use replay::replay_one;
 pub use stage::Stage;
+pub use telling::{Told, replay_one, story};
 pub use went::Went;
 
-/// Where no hart of a stage can go, what its state comes to is the replay's outcome. The function has no body: it
-/// promises a law.
+/// Where no hart of a stage can go, its state is that behind the least order, and comes to the replay's outcome,
+/// whatever order led there. The function has no body: it promises laws.
 pub fn ends_tell_outcome()
-    ensures { EndsTellOutcome }
+    ensures least { EndsAreLeast }
+    ensures outcome { EndsTellOutcome }
 {}

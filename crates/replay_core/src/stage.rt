@@ -1,68 +1,34 @@
-//! A replay on one thread.
+//! A replay, one item of any hart after the other.
 
-ghost use Rattle.std.specs.Prelude.{◌≡◌, ◌<◌, ◌==◌, ◌&&◌, ◌||◌, not, length, false, IfOk, IfSome, IsTrue};
-ghost use Rattle.std.specs.List.{list_all};
-ghost use Rattle.replay_model.specs.Outcome.{is_stop, is_limit, same};
-ghost use Rattle.replay_core.specs.Items.{IsStill, rule_in};
-ghost use Rattle.replay_core.specs.Standing.{Begins, IsSomewhere, AnswersAt, LeadsOn, IsSame, GoesOn, HasNoItem, HasGone, CanGoNowhere, left};
-ghost use Rattle.replay_core.specs.Standing.{FindsDiverged, AgreesOnCause, EndsAt, TellsDiverged, ComesTo};
-ghost use Rattle.run_model.specs.Run.{Run};
+ghost use Rattle.std.specs.Prelude.{◌≡◌, ◌<◌, length, IfOk};
+ghost use Rattle.replay_core.specs.Items.{IsStill};
+ghost use Rattle.replay_core.specs.Standing.{Begins, AnswersAt, LeadsOn, IsSame, CanGoNowhere, ComesTo};
 
-use crate::board::{ReplayBoard, harts_of};
-use crate::ends::{Ends, put_counts, put_harts, put_memory};
 use crate::outcome::Outcome;
-use crate::runs::first_runs;
+use crate::replaying::Replaying;
 use crate::went::Went;
-use board_backing::Backing;
 use elf_image::Image;
-use flat_machine::{Bytes, Counts, Final, Harts, Memory};
-use hart_run::HartRun;
 use log_order::Orderly;
-use rv_words::Cause;
 use shared_types::NoMemory;
 use std::alloc::Global;
+use std::marker::Model;
 
 /// A replay: its board, and the run of each hart.
 #[derive(Drop)]
 pub struct Stage {
-    pub(crate) board: ReplayBoard,
-    pub(crate) runs: Vec<HartRun>,
-    pub(crate) ends: Ends,
+    pub(crate) replaying: Replaying,
 }
 
-/// Whether the item was made: then another may follow.
-fn is_made(went: Went) -> bool
-    ensures still { result ≡ false → IsStill went }
-    ensures made { IsTrue result → IsStill went → ⊥ }
-{
-    matches!(went, Went::Moved | Went::Entry)
-}
+impl Model for Stage {
+    ghost use Rattle.replay_core.specs.declared.replaying.Replaying.{Replaying};
 
-/// The rule of a divergence.
-fn rule_in(went: Went) -> Option<u8>
-    ensures { result ≡ rule_in went }
-{
-    match went {
-        Went::Diverged(rule) => Some(rule),
-        _ => None,
-    }
-}
+    ghost Value = { Replaying };
 
-fn either(one: bool, other: bool) -> bool
-    ensures { result ≡ (one || other) }
-{
-    one || other
-}
+    ghost use Rattle.replay_core.specs.Standing.{IsSomewhere};
 
-/// Whether the cause is that of a run that stopped or not, and whose harts all came to the limit or not.
-fn cause_suits(cause: Cause, stopped: bool, at_limit: bool) -> bool
-    ensures { result ≡ (same (is_stop cause) stopped && same (is_limit cause) (not stopped && at_limit)) }
-{
-    match cause {
-        Cause::Stop => stopped,
-        Cause::Limit => !stopped && at_limit,
-        _ => !stopped && !at_limit,
-    }
+    ghost view = { λ s. s.replaying };
+
+    ghost invariant = { λ s. IsSomewhere s.replaying };
 }
 
 impl Stage {
@@ -71,186 +37,27 @@ impl Stage {
         requires { orderly.pages ≡ image.now.pages }
         ensures { IfOk result (Begins orderly image.now) }
     {
-        let board = ReplayBoard::start(alloc, orderly, image)?;
-        let harts = harts_of(board.log.log());
-        let runs = first_runs(alloc, harts, image)?;
-        let ends = Ends::start(alloc, harts, image)?;
-        Ok(Stage { board, runs, ends })
+        let replaying = Replaying::start(alloc, orderly, image)?;
+        Ok(Stage { replaying })
     }
 
     /// One item of a hart. Where it isn't made nothing changes.
     pub fn go(&mut self, hart: u8) -> Went
-        requires at { IsSomewhere self.old }
-        requires hart { hart < length self.old.runs.items }
+        requires { hart < length self.old.board.log.streams }
         ensures answer { AnswersAt self.old hart result }
         ensures at { LeadsOn self.old self.new hart }
         ensures still { IsStill result → IsSame self.old self.new }
         ensures log { self.new.board.log ≡ self.old.board.log }
     {
-        self.board.go(&mut self.runs[usize::from(hart)], hart)
-    }
-
-    /// The moves of a hart, as many as it can make up to the count of its first entry left. Whether any was made.
-    fn leg(&mut self, hart: u8) -> bool
-        requires at { IsSomewhere self.old }
-        requires hart { hart < length self.old.runs.items }
-        ensures on { GoesOn self.old self.new }
-        ensures log { self.new.board.log ≡ self.old.board.log }
-        ensures gone { HasGone result self.old self.new }
-    {
-        self.board.run_on(&mut self.runs[usize::from(hart)], hart)
-    }
-
-    /// A leg of a hart, and the item behind it. Whether any was made.
-    fn go_leg(&mut self, hart: u8) -> bool
-        requires at { IsSomewhere self.old }
-        requires hart { hart < length self.old.runs.items }
-        ensures on { GoesOn self.old self.new }
-        ensures log { self.new.board.log ≡ self.old.board.log }
-        ensures gone { HasGone result self.old self.new }
-        ensures stuck { result ≡ false → HasNoItem self.new hart }
-    {
-        let ran = self.leg(hart);
-        either(is_made(self.go(hart)), ran)
-    }
-
-    /// A hart goes on as far as it can. Whether it went at all.
-    fn go_far(&mut self, hart: u8) -> bool
-        requires at { IsSomewhere self.old }
-        requires hart { hart < length self.old.runs.items }
-        ensures on { GoesOn self.old self.new }
-        ensures log { self.new.board.log ≡ self.old.board.log }
-        ensures gone { HasGone result self.old self.new }
-        ensures stuck { HasNoItem self.new hart }
-    {
-        let mut went = false;
-        'items: while self.go_leg(hart) {
-            went = true;
-        }
-        went
-    }
-
-    /// Each hart goes on as far as it can. Whether any went.
-    fn sweep(&mut self) -> bool
-        requires { IsSomewhere self.old }
-        ensures on { GoesOn self.old self.new }
-        ensures log { self.new.board.log ≡ self.old.board.log }
-        ensures less { IsTrue result → left self.new < left self.old }
-        ensures stuck { result ≡ false → CanGoNowhere self.new }
-    {
-        let mut went = false;
-        for hart in 0..harts_of(self.board.log.log()) {
-            went = either(self.go_far(hart), went);
-        }
-        went
-    }
-
-    /// The harts go on until none can.
-    pub(crate) fn run_out(&mut self)
-        requires { IsSomewhere self.old }
-        ensures on { GoesOn self.old self.new }
-        ensures log { self.new.board.log ≡ self.old.board.log }
-        ensures stuck { CanGoNowhere self.new }
-    {
-        'sweeps: while self.sweep() {}
-    }
-
-    /// The least hart that has diverged, with its rule. Nothing is changed: no hart can go.
-    fn first_diverged(&mut self) -> Option<(u8, u8)>
-        requires at { IsSomewhere self.old }
-        requires stuck { CanGoNowhere self.old }
-        ensures same { IsSame self.old self.new }
-        ensures first { FindsDiverged self.old result }
-        ensures there { IfSome result (λ found. found.0 < length self.old.runs.items) }
-    {
-        for hart in 0..harts_of(self.board.log.log()) {
-            if let Some(rule) = rule_in(self.go(hart)) {
-                return Some((hart, rule));
-            }
-        }
-        None
-    }
-
-    /// Whether each hart's count is the log's limit.
-    fn all_at_limit(&self) -> bool
-        ensures { result ≡ list_all (λ (r : Run). r.count == self.now.board.log.limit) self.now.runs.items }
-    {
-        let limit = self.board.log.log().limit;
-        for run in &self.runs {
-            if run.count() != limit {
-                return false;
-            }
-        }
-        true
-    }
-
-    /// Whether the log's cause agrees with the end.
-    fn cause_agrees(&self) -> bool
-        requires { IsSomewhere self.now }
-        ensures { AgreesOnCause self.now result }
-    {
-        let stopped = self.board.backing.devices.stop().is_some();
-        cause_suits(self.board.log.log().cause, stopped, self.all_at_limit())
-    }
-
-    /// The end that the stage is at.
-    fn into_end(self) -> Final
-        requires { IsSomewhere self }
-        ensures { EndsAt self result }
-    {
-        let Stage {
-            board,
-            runs,
-            mut ends,
-        } = self;
-        put_harts(&runs, &mut ends.harts);
-        put_counts(&runs, &mut ends.counts);
-        put_memory(&runs, &board.backing, &mut ends.memory);
-        let cause = board.log.log().cause;
-        let ReplayBoard { backing, .. } = board;
-        let Backing { devices, .. } = backing;
-        Final {
-            cause,
-            stop: devices.stop(),
-            time: devices.time(),
-            harts: Harts::of(ends.harts),
-            counts: Counts::of(ends.counts),
-            memory: Memory::of(ends.memory),
-            sent: Bytes::of(devices.into_sent()),
-        }
+        self.replaying.go(hart)
     }
 
     /// What the replay came to. It takes no memory.
-    pub fn outcome(mut self) -> Outcome
-        requires at { IsSomewhere self }
-        requires stuck { CanGoNowhere self }
+    pub fn outcome(self) -> Outcome
+        requires { CanGoNowhere self }
         ensures { ComesTo self result }
     {
-        let diverged = self.first_diverged();
-        match diverged {
-            Some((hart, why)) => self.diverged(hart, why),
-            None => {
-                if self.cause_agrees() {
-                    Outcome::Done(self.into_end())
-                } else {
-                    self.diverged(0, 7)
-                }
-            }
-        }
-    }
-
-    /// The hart has diverged, with this rule.
-    fn diverged(self, hart: u8, why: u8) -> Outcome
-        requires at { IsSomewhere self }
-        requires hart { hart < length self.runs.items }
-        ensures { TellsDiverged self hart why result }
-    {
-        let count = self.runs[usize::from(hart)].count();
-        Outcome::Diverged {
-            hart,
-            count,
-            why,
-            state: self.into_end(),
-        }
+        let Stage { replaying } = self;
+        replaying.outcome()
     }
 }

@@ -13,10 +13,10 @@ first_left-requires c = let t = c.requires in
 
 pub returns-in-Free-clause-made : goal.returns-in-Free-clause-made
 returns-in-Free-clause-made c = λ yes image s st a.
-    let less : c.args.run.now.count < c.count_of-until.result = omega arith in
-    runs_on image c.args.self.now c.args.run.now c.advance.new.self c.args.hart c.count_of-until.result c.advance.result s c.in-Some.entry.now st a
+    let less : c.args.run.now.count < c.min-until.result = omega arith in
+    runs_on image c.args.self.now c.args.run.now c.advance.new.self c.args.hart c.min-until.result c.advance.result s c.in-Some.entry.now st a
     (ap₂ (λ (l : Log) (k : ℕ). first_left l c.args.self.now.cursor k) (sym c.log.ensures.same) (sym c.from.ensures) ∙ c.in-Some.ensures.entry)
-    c.count_of-until.ensures
-    (leg_is image c.args.self.now c.args.run.now c.advance.new.self c.args.hart c.count_of-until.result c.advance.result s st a c.advance.ensures.leg)
+    (omega arith)
+    (leg_is image c.args.self.now c.args.run.now c.advance.new.self c.args.hart c.min-until.result c.advance.result s st a c.advance.ensures.leg)
     c.advance.ensures.kept
-    (ahead_is image c.args.self.now c.args.run.now c.args.hart s ahead.Free st a (c.in-Free.ensures.agrees c.args.hart s a)) less
+    (ahead_is image c.args.self.now c.args.run.now c.args.hart s ahead.Free st a (c.in-Free.ensures.agrees c.args.hart s a)) less c.args.most (omega arith)

@@ -1,0 +1,13 @@
+use Rattle.std.proofs.Common.{◌≡◌, ◌∙◌, length, ap}
+use Rattle.log_entry.specs.declared.log.Log.{Log}
+use Rattle.replay_core.proofs.FirstStage.{first_at}
+use Rattle.replay_core.proofs.replaying.Replaying.start.Goals as goal
+
+pub returns : goal.returns
+returns c =
+    let number : c.harts_of-harts.result ≡ length c.in_ok-board.board.log.streams =
+    c.harts_of-harts.ensures.number ∙ ap (λ (l : Log). length l.streams) c.log.ensures.same in (
+      c.in_ok-board.ensures.0,
+      first_at c.args.image.now c.args.orderly _ c.harts_of-harts.result c.in_ok-board.ensures.0 c.in_ok-board.ensures.1 number c.in_ok-runs.ensures.number
+          c.in_ok-runs.ensures.agree c.in_ok-ends.ensures,
+    )

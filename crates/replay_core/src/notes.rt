@@ -1,0 +1,125 @@
+//! What is noted of one hart's moves.
+
+ghost use Rattle.std.specs.Prelude.{◌≡◌, ◌<◌, OnOk};
+ghost use Rattle.rv_hart.specs.Effects.{entry_effect};
+ghost use Rattle.rv_hart.specs.Moves.{trap_of};
+ghost use Rattle.flat_machine.specs.Moves.{move_of};
+ghost use Rattle.flat_machine.specs.Runs.{register_written, step_by as step_of_move};
+ghost use Rattle.replay_core.specs.Telling.{IsQuiet, NotesItem, SameAim, notes_at, seen_of};
+
+use flat_machine::Step;
+use hart_run::HartRun;
+use rv_hart::Hart;
+use shared_types::NoMemory;
+
+/// The moves of a hart from one count on, below another, as far as they are made.
+#[derive(Drop)]
+pub(crate) struct Notes {
+    pub(crate) hart: u8,
+    pub(crate) from: u64,
+    pub(crate) to: u64,
+    pub(crate) steps: Vec<Step>,
+}
+
+/// A hart and its count before an item, and the word that it may fetch.
+#[derive(Clone, Copy)]
+pub(crate) struct Seen {
+    pub(crate) hart: Hart,
+    pub(crate) word: Option<u32>,
+    pub(crate) count: u64,
+}
+
+/// What is seen of a run.
+pub(crate) fn look(run: &HartRun) -> Seen
+    ensures { result ≡ seen_of run.now }
+{
+    Seen {
+        hart: *run.hart(),
+        word: run.word(),
+        count: run.count(),
+    }
+}
+
+/// mcause.
+const MCAUSE: u16 = 0x342;
+
+/// The cause of a move that fetches nothing.
+fn entry_cause(before: &Hart) -> Option<u32>
+    ensures { result ≡ trap_of (entry_effect before.now) }
+{
+    let mut entered = *before;
+    entered.enter();
+    entered.csr(MCAUSE)
+}
+
+/// The register from x1 that a move set, and its value.
+fn wrote(register: u8, after: &Hart) -> Option<(u8, u32)>
+    requires { register < 32 }
+    ensures { result ≡ register_written register after.now }
+{
+    if register == 0 {
+        None
+    } else {
+        Some((register, after.reg(register)))
+    }
+}
+
+/// The step of a move that fetched this word, or nothing.
+fn step_by(before: &Hart, word: Option<u32>, after: &Hart) -> Step
+    ensures { result ≡ step_of_move before.now word (move_of before.now word) after.now }
+{
+    let (cause, register) = match word {
+        Some(word) => {
+            let effect = before.effect(word);
+            (effect.trap(), effect.register())
+        }
+        None => (entry_cause(before), 0),
+    };
+    Step {
+        pc: before.pc(),
+        word,
+        cause,
+        wrote: wrote(register, after),
+        after: *after,
+    }
+}
+
+impl Notes {
+    /// Whether a move of a hart at this count is to be noted.
+    pub(crate) fn wants(&self, hart: u8, count: u64) -> bool
+        ensures { result ≡ notes_at self.now hart count }
+    {
+        hart == self.hart && self.from <= count && count < self.to
+    }
+
+    /// A count up to which none of a hart's moves from this one on is to be noted.
+    pub(crate) fn quiet_until(&self, hart: u8, count: u64) -> u64
+        ensures { IsQuiet self.now hart count result }
+    {
+        if hart != self.hart || self.to <= count {
+            u64::MAX
+        } else {
+            self.from
+        }
+    }
+
+    /// Notes what came of a hart's item, where that is a move that is to be noted.
+    pub(crate) fn note(&mut self, hart: u8, before: &Seen, run: &HartRun) -> Result<(), NoMemory>
+        ensures aim { SameAim self.old self.new }
+        ensures noted { OnOk result (NotesItem self.old self.new hart before.now run.now) }
+    {
+        if run.count() == before.count {
+            return Ok(());
+        }
+        if !self.wants(hart, before.count) {
+            return Ok(());
+        }
+        match self
+            .steps
+            .push(step_by(&before.hart, before.word, run.hart()))
+        {
+            Ok(()) => Ok(()),
+            Err(_) => Err(NoMemory),
+        }
+    }
+}
