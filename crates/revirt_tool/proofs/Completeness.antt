@@ -1,21 +1,21 @@
 -- Where nothing fails a recording is done, and an orderly log is listed.
-use Rattle.std.proofs.Common.{◌≡◌, ℕ, ◌<◌, Bool, true, false, List, length, Option, Some, None, Result, Ok, Err, IsSomeAnd, inl, inr, if◌then◌else◌, refl}
+use Rattle.std.proofs.Common.{◌≡◌, ℕ, ◌<◌, ◌≤◌, Bool, true, false, List, length, Option, Some, None, Result, Ok, Err, IsSomeAnd, inl, inr, if◌then◌else◌, refl}
 use Rattle.std.proofs.Common.{sym, ap, ◌∙◌, subst, arith, true≢false, ⊎_elim}
 use Rattle.std.proofs.lemmas.Option.{none-some, same_Some}
 use Rattle.rv_words.specs.declared.shared.Cause.{Cause}
 use Rattle.rv_words.specs.declared.shared.Cause.TheVariants as causes
-use Rattle.std.specs.Prelude.{is_ok}
+use Rattle.std.specs.Prelude.{is_ok, IsTrue}
 use Rattle.outside.specs.Causes.{Rose}
 use Rattle.elf_image.specs.Rules.{broken_rule}
 use Rattle.command_words.specs.Grammar.{job_of}
 use Rattle.command_words.specs.declared.job.Job.{Job}
-use Rattle.recorder.specs.Sources.{Sources}
-use Rattle.recorder.specs.Turns.{FaultsOf}
-use Rattle.outside.specs.Seen.{SeenShelf, SeenSink}
+use Rattle.crew_parts.specs.Boards.{World}
+use Rattle.crew_parts.specs.Turns.{CountsFaults}
+use Rattle.outside.specs.Seen.{SeenShelf, SeenSink, HoldsMore}
 use Rattle.revirt_tool.specs.Serving.{Around, RecordsAs, TaskAs}
 use Rattle.revirt_tool.specs.Tasks.{Wish, Task, Records, Lists, task, task_of}
 use Rattle.revirt_tool.specs.Files.{longest}
-use Rattle.revirt_tool.specs.Listings.{InspectsAs, IsListing, IsLogOf}
+use Rattle.revirt_tool.specs.Listings.{InspectsAs, IsListing, IsLogOf, IsMalformed}
 use Rattle.order_rules.specs.Orderly.{IsOrderly, IsLeastBreak}
 use Rattle.order_rules.proofs.Reports.{reports_are_one}
 use Rattle.room_laws.proofs.Judged.{order_sees_no_room}
@@ -24,11 +24,11 @@ use Rattle.log_entry.specs.Room.{log_without_room}
 use Rattle.log_format.specs.Grammar.{spelling, reading}
 use Rattle.log_format.specs.Format.{Bad}
 use Rattle.revirt_tool.specs.declared.ending.File.TheVariants as files
-use Rattle.revirt_tool.specs.Closing.{PrintsOrFails, status_of, status_unprinted}
+use Rattle.revirt_tool.specs.Closing.{Prints, PrintsOrFails, status_of, status_unprinted}
 use Rattle.revirt_tool.specs.Promise.{KeepsRecording, is_fault}
-use Rattle.revirt_tool.specs.Complete.{AreDone, HasImage, HasLog, KeptAreLogs, NothingFailed}
+use Rattle.revirt_tool.specs.Complete.{AreDone, HasImage, HoldsLog, HasLog, KeptAreLogs, NothingFailed}
 use Rattle.revirt_tool.specs.declared.ending.Ending.{Ending}
-use Rattle.revirt_tool.specs.declared.ending.Ending.TheVariants.{Usage, NotBuilt, TooLong, ImageRefused, Malformed, NoMemory, ShelfFault, Kept, Listed}
+use Rattle.revirt_tool.specs.declared.ending.Ending.TheVariants.{Usage, NotBuilt, TooLong, ImageRefused, Malformed, OtherImage, Disorderly, Diverged, NoMemory, ShelfFault, Kept, Listed}
 
 abbrev ok_or : {X : Type 0} → X → Result X Bad → X
 ok_or other (Ok x) = x
@@ -47,34 +47,38 @@ not_judged one other rule hart entry same orderly breaks =
     reports_are_one.none one rule hart entry orderly (((order_sees_no_room one).breaks rule hart entry).0
     (subst (λ l. IsLeastBreak l rule hart entry) (sym same) (((order_sees_no_room other).breaks rule hart entry).1 breaks)))
 
-faulted : (cause : Cause) (o p : Sources) → true ≡ is_fault cause → FaultsOf cause o p → Rose o.console.faults p.console.faults
-faulted causes.Fault o p is rose = rose
-faulted causes.Stop o p is kept = absurd (true≢false is)
-faulted causes.Limit o p is kept = absurd (true≢false is)
-faulted causes.Full o p is kept = absurd (true≢false is)
-faulted causes.Cut o p is kept = absurd (true≢false is)
+faulted : (cause : Cause) (before now : ℕ) → true ≡ is_fault cause → CountsFaults None (Some cause) before now → Rose before now
+faulted causes.Fault before now is rose = rose
+faulted causes.Stop before now is kept = absurd (true≢false is)
+faulted causes.Limit before now is kept = absurd (true≢false is)
+faulted causes.Full before now is kept = absurd (true≢false is)
+faulted causes.Cut before now is kept = absurd (true≢false is)
 
-past : (most : ℕ) (held : Option (List ℕ)) (file : List ℕ) → held ≡ Some file → IsSomeAnd held (λ b. most < length b) → most < length file
+pub past : (most : ℕ) (held : Option (List ℕ)) (file : List ℕ) → held ≡ Some file → IsSomeAnd held (λ b. most < length b) → most < length file
 past most held file is long = subst (λ h. IsSomeAnd h (λ b. most < length b)) is long
 
 -- the words ask for one task
-same_task : (words : List (List ℕ)) (P : Task → Type 0) (a wanted : Task) → task words ≡ Some a → task words ≡ Some wanted → P a → P wanted
+pub same_task : (words : List (List ℕ)) (P : Task → Type 0) (a wanted : Task) → task words ≡ Some a → task words ≡ Some wanted → P a → P wanted
 same_task words P a wanted one other holds = subst P (same_Some a wanted (sym one ∙ other)) holds
 
 -- words that ask for a task are in the grammar
-in_grammar : (words : List (List ℕ)) (wanted : Task) (place : ℕ) → task words ≡ Some wanted → job_of words ≡ Err place → ⊥
+pub in_grammar : (words : List (List ℕ)) (wanted : Task) (place : ℕ) → task words ≡ Some wanted → job_of words ≡ Err place → ⊥
 in_grammar words wanted place is bad =
     none-some wanted (sym (ap (λ (r : Result Job ℕ). elim r [ Ok j ↦ task_of words j | Err place ↦ None ]) bad) ∙ is)
 
 -- a text that was printed, where the sink didn't fail
-printed : (text : List ℕ) (ok unprinted status : ℕ) (s t : SeenSink) → (Rose s.faults t.faults → ⊥) → PrintsOrFails text ok unprinted s t status
-    → status ≡ ok
-printed text ok unprinted status s t quiet (inl done) = done.1
-printed text ok unprinted status s t quiet (inr failed) = absurd (quiet failed.0.faults)
+pub prints : (text : List ℕ) (ok unprinted status : ℕ) (s t : SeenSink) → (Rose s.faults t.faults → ⊥) → PrintsOrFails text ok unprinted s t status
+    → Prints text s t × (status ≡ ok)
+prints text ok unprinted status s t quiet (inl done) = done
+prints text ok unprinted status s t quiet (inr failed) = absurd (quiet failed.0.faults)
 
-done : (report : List ℕ) (fault : Bool) (w : Wish) (s t : SeenShelf) (o p : Sources) → KeepsRecording w report fault s t o p
+pub printed : (text : List ℕ) (ok unprinted status : ℕ) (s t : SeenSink) → (Rose s.faults t.faults → ⊥) → PrintsOrFails text ok unprinted s t status
+    → status ≡ ok
+printed text ok unprinted status s t quiet closes = (prints text ok unprinted status s t quiet closes).1
+
+done : (report : List ℕ) (fault : Bool) (w : Wish) (s t : SeenShelf) (o p : World) → KeepsRecording w report fault s t o p
     → (Rose o.console.faults p.console.faults → ⊥) → fault ≡ false
-done report true w s t o p keeps quiet = absurd (quiet (faulted keeps.log.cause o p keeps.fault_is keeps.comes.faults))
+done report true w s t o p keeps quiet = absurd (quiet (faulted keeps.log.cause o.console.faults p.console.faults keeps.fault_is keeps.comes.run.faults))
 done report false w s t o p keeps quiet = refl
 
 -- what is asked for ended so, and no count rose
@@ -117,6 +121,12 @@ recordings_done words before after status (ImageRefused rule, ends, closes) imag
     absurd (refused words before after status image quiet rule (recorded words before after status image quiet (ImageRefused rule) ends.0 ends.1 ends.2))
 recordings_done words before after status (Malformed offset rule, ends, closes) image quiet =
     absurd (recorded words before after status image quiet (Malformed offset rule) ends.0 ends.1 ends.2)
+recordings_done words before after status (OtherImage named has, ends, closes) image quiet =
+    absurd (recorded words before after status image quiet (OtherImage named has) ends.0 ends.1 ends.2)
+recordings_done words before after status (Disorderly rule hart entry, ends, closes) image quiet =
+    absurd (recorded words before after status image quiet (Disorderly rule hart entry) ends.0 ends.1 ends.2)
+recordings_done words before after status (Diverged hart count rule, ends, closes) image quiet =
+    absurd (recorded words before after status image quiet (Diverged hart count rule) ends.0 ends.1 ends.2)
 recordings_done words before after status (NoMemory, ends, inl prints) image quiet = inr (printed _ 3 3 status before.sink after.sink quiet.sink prints)
 recordings_done words before after status (NoMemory, ends, inr other) image quiet = absurd (true≢false (sym other.0))
 recordings_done words before after status (ShelfFault, ends, closes) image quiet =
@@ -133,6 +143,30 @@ recordings_done words before after status (Kept report fault, ends, inl prints) 
 recordings_done words before after status (Listed listing orderly, ends, closes) image quiet =
     absurd (recorded words before after status image quiet (Listed listing orderly) ends.0 ends.1 ends.2)
 
+-- what is fetched of a log that the shelf holds
+module _ (name : List ℕ) (s : SeenShelf) (holds : HoldsLog name s) where
+  -- the file that was fetched is the log's
+  fetched_is : (file : List ℕ) → s.held name ≡ Some file → reading file ≡ Ok (log_without_room holds.log)
+  fetched_is file held = ap reading (same_Some file (spelling holds.log) (sym held ∙ holds.held)) ∙ holds.again
+
+  pub log_not_long : HoldsMore s name (longest files.Log) → ⊥
+  log_not_long more =
+      let is = past (longest files.Log) (s.held name) (spelling holds.log) holds.held (more holds.tells) in
+      let within = holds.within in
+      omega (arith, is, within)
+
+  pub well_formed : (offset rule : ℕ) → IsMalformed name s offset rule → ⊥
+  well_formed offset rule is = ok_isnt_err _ _ (sym (fetched_is is.file (is.fetched.held holds.tells)) ∙ is.bad)
+
+  -- what is read says the same
+  pub reads_alike : (read : Log) → IsLogOf name s read → log_without_room holds.log ≡ log_without_room read
+  reads_alike read is = same_ok _ _ (sym (fetched_is is.file (is.fetched.held holds.tells)) ∙ is.read)
+
+  -- and is orderly
+  pub not_disorderly : (read : Log) (rule hart entry : ℕ) → IsLogOf name s read → IsLeastBreak read rule hart entry → ⊥
+  not_disorderly read rule hart entry is breaks =
+      not_judged holds.log read rule hart entry (reads_alike read is) holds.orderly breaks
+
 -- what is asked for ended so, and no count rose
 module _ (words : List (List ℕ)) (before after : Around) (status : ℕ) (log : HasLog words before.shelf) (quiet : NothingFailed before after) where
   listed : (ending : Ending) (a : Task) → task words ≡ Some a → TaskAs a before.shelf after.shelf before.sources after.sources ending
@@ -140,27 +174,10 @@ module _ (words : List (List ℕ)) (before after : Around) (status : ℕ) (log :
   listed ending a is ends =
       (same_task words (λ b. TaskAs b before.shelf after.shelf before.sources after.sources ending) a (Lists log.name) is log.is ends).0
 
-  -- the file that was fetched is the log's
-  fetched_is : (file : List ℕ) → before.shelf.held log.name ≡ Some file → reading file ≡ Ok (log_without_room log.log)
-  fetched_is file held = ap reading (same_Some file (spelling log.log) (sym held ∙ log.held)) ∙ log.again
-
-  log_long : InspectsAs log.name before.shelf after.shelf (TooLong files.Log) → ⊥
-  log_long ends =
-      let is = past (longest files.Log) (before.shelf.held log.name) (spelling log.log) log.held (ends.0 log.tells) in
-      let within = log.within in
-      omega (arith, is, within)
-
-  well_formed : (offset rule : ℕ) → InspectsAs log.name before.shelf after.shelf (Malformed offset rule) → ⊥
-  well_formed offset rule ends = ok_isnt_err _ _ (sym (fetched_is ends.0.file (ends.0.fetched.held log.tells)) ∙ ends.0.bad)
-
-  judged : (text : List ℕ) (read : Log) → reading (spelling log.log) ≡ Ok (log_without_room read) → IsListing read text false → ⊥
-  judged text read is listing =
-      let told = listing.judged in
-      not_judged log.log read told.rule told.hart told.entry (same_ok _ _ (sym log.again ∙ is)) log.orderly told.breaks
-
   listed_log : (text : List ℕ) → ((read : Log) × IsLogOf log.name before.shelf read × IsListing read text false) → ⊥
   listed_log text l =
-      judged text l.0 (ap reading (same_Some (spelling log.log) l.1.file (sym log.held ∙ l.1.fetched.held log.tells)) ∙ l.1.read) l.2
+      let told = l.2.judged in
+      not_disorderly log.name before.shelf log.holds l.0 told.rule told.hart told.entry l.1 told.breaks
 
 pub listings_done : AreDone HasLog
 listings_done words before after status (Usage place, ends, closes) log quiet = absurd (in_grammar words (Lists log.name) place log.is ends.0)
@@ -168,12 +185,18 @@ listings_done words before after status (NotBuilt, ends, closes) log quiet = abs
 listings_done words before after status (TooLong files.Image, ends, closes) log quiet =
     absurd (listed words before after status log quiet (TooLong files.Image) ends.0 ends.1 ends.2)
 listings_done words before after status (TooLong files.Log, ends, closes) log quiet =
-    absurd (log_long words before after status log quiet (listed words before after status log quiet (TooLong files.Log) ends.0 ends.1 ends.2))
+    absurd (log_not_long log.name before.shelf log.holds (listed words before after status log quiet (TooLong files.Log) ends.0 ends.1 ends.2).0)
 listings_done words before after status (ImageRefused rule, ends, closes) log quiet =
     absurd (listed words before after status log quiet (ImageRefused rule) ends.0 ends.1 ends.2)
 listings_done words before after status (Malformed offset rule, ends, closes) log quiet =
-    absurd (well_formed words before after status log quiet offset rule
-    (listed words before after status log quiet (Malformed offset rule) ends.0 ends.1 ends.2))
+    absurd (well_formed log.name before.shelf log.holds offset rule
+    (listed words before after status log quiet (Malformed offset rule) ends.0 ends.1 ends.2).0)
+listings_done words before after status (OtherImage named has, ends, closes) log quiet =
+    absurd (listed words before after status log quiet (OtherImage named has) ends.0 ends.1 ends.2)
+listings_done words before after status (Disorderly rule hart entry, ends, closes) log quiet =
+    absurd (listed words before after status log quiet (Disorderly rule hart entry) ends.0 ends.1 ends.2)
+listings_done words before after status (Diverged hart count rule, ends, closes) log quiet =
+    absurd (listed words before after status log quiet (Diverged hart count rule) ends.0 ends.1 ends.2)
 listings_done words before after status (NoMemory, ends, inl prints) log quiet = inr (printed _ 3 3 status before.sink after.sink quiet.sink prints)
 listings_done words before after status (NoMemory, ends, inr other) log quiet = absurd (true≢false (sym other.0))
 listings_done words before after status (ShelfFault, ends, closes) log quiet =
@@ -187,16 +210,26 @@ listings_done words before after status (Listed listing false, ends, closes) log
     (listed words before after status log quiet (Listed listing false) ends.0 ends.1 ends.2).1)
 listings_done words before after status (Listed listing true, ends, inr other) log quiet = absurd (true≢false (sym other.0))
 
-pub kept_are_logs : KeptAreLogs
-kept_are_logs w text fault s t o p words keeps limit tells is =
+pub kept_within : (w : Wish) (text : List ℕ) (fault : Bool) (s t : SeenShelf) (o p : World) (keeps : KeepsRecording w text fault s t o p)
+    → w.log_limit ≤ longest files.Log → length (spelling keeps.log) ≤ longest files.Log
+kept_within w text fault s t o p keeps limit =
     let within = keeps.within in
+    omega (arith, within, limit)
+
+-- a shelf that tells and holds the log that a recording kept holds an orderly log
+abbrev pub kept_log_held : (w : Wish) (text : List ℕ) (fault : Bool) (s t u : SeenShelf) (o p : World) (name : List ℕ)
+    (keeps : KeepsRecording w text fault s t o p) → w.log_limit ≤ longest files.Log → IsTrue u.tells
+    → u.held name ≡ Some (spelling keeps.log) → HoldsLog name u
+kept_log_held w text fault s t u o p name keeps limit tells held =
     record {
-      name = w.log;
-      is = is;
       tells = tells;
       log = keeps.log;
-      held = keeps.kept.log_held tells;
-      within = omega (arith, within, limit);
+      held = held;
+      within = kept_within w text fault s t o p keeps limit;
       again = keeps.again;
       orderly = keeps.orderly;
     }
+
+pub kept_are_logs : KeptAreLogs
+kept_are_logs w text fault s t o p words keeps limit tells is =
+    record { name = w.log; is = is; holds = kept_log_held w text fault s t t o p w.log keeps limit tells (keeps.kept.log_held tells) }

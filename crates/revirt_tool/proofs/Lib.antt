@@ -1,4 +1,11 @@
 pub mod Texts
+pub mod Replayed
+pub mod Ended
 pub mod Recordings
 pub mod Wishes
+pub mod ReplaySteps
 pub mod Completeness
+pub mod ReplaysDone
+pub mod Told
+pub mod TraceSteps
+pub mod SameRuns

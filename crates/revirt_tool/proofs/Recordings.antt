@@ -1,140 +1,228 @@
 -- A recording that was kept keeps what the program promises.
-use Rattle.std.proofs.Common.{◌≡◌, ℕ, ◌==◌, ◌&&◌, not, Bool, true, false, List, ◌++◌, length, replicate, None, IsTrue, sym, ap, ap₂, ◌∙◌, subst, Option}
+use Rattle.std.proofs.Common.{◌≡◌, ℕ, ◌+◌, ◌<◌, ◌==◌, ◌&&◌, not, Bool, true, false, List, [], ◌∷◌, ◌++◌, map, length, slice_get, slice_index, None, IsTrue, sym, ap, ap₂, ◌∙◌, subst, Option}
 use Rattle.std.proofs.Common.{Some, IfSome, Ok, Err, inl, inr, ⊎_elim, refl, arith}
-use Rattle.std.proofs.lemmas.Bool.{eq-eqb, ne_eqb}
-use Rattle.rv_words.specs.Limits.{page_bytes}
+use Rattle.std.specs.Prelude.{◌↔◌}
+use Rattle.std.specs.List.{enumerate_from}
+use Rattle.std.proofs.lemmas.List.{append-nil, length-map}
+use Rattle.std.proofs.lemmas.List.FromFn.{length-map-range_with_len, length-enumerate_from}
 use Rattle.rv_words.specs.declared.shared.Cause.{Cause}
 use Rattle.rv_words.specs.declared.shared.Cause.TheVariants as causes
-use Rattle.elf_image.specs.Image.{Image, IsWhole, start_digest}
+use Rattle.rv_hart.specs.Moves.{hart_at_start}
+use Rattle.outside.specs.Causes.{Rose}
+use Rattle.outside.specs.Seen.{SeenShelf, Takes, ToldBefore}
+use Rattle.elf_image.specs.Image.{Image}
 use Rattle.elf_image.specs.Loading.{image_of}
 use Rattle.elf_image.specs.Rules.{broken_rule}
 use Rattle.flat_machine.specs.State.{FlatState, flat_at_start}
-use Rattle.flat_machine.specs.Runs.{flat}
+use Rattle.flat_machine.specs.Runs.{final_of, flat}
 use Rattle.flat_machine.specs.declared.results.Final.{Final}
+use Rattle.log_entry.specs.declared.log.Entry.{Entry}
+use Rattle.log_entry.specs.declared.log.Entry.TheVariants.{End}
 use Rattle.log_entry.specs.declared.log.Log.{Log}
 use Rattle.log_entry.specs.Parts.{unit_of}
-use Rattle.log_entry.specs.Size.{size_of_log}
-use Rattle.log_entry.specs.Room.{log_without_room}
+use Rattle.log_entry.specs.Range.{in_range}
+use Rattle.log_entry.specs.Size.{size_in, size_of_log}
+use Rattle.log_entry.specs.Room.{stream_without_room, log_without_room}
 use Rattle.log_format.specs.Grammar.{spelling, reading}
-use Rattle.report_view.specs.Report.{report}
-use Rattle.outside.specs.Causes.{Rose}
-use Rattle.order_rules.specs.Orderly.{IsOrderly}
+use Rattle.order_rules.specs.Places.{stream}
 use Rattle.replay_model.specs.Board.{board}
-use Rattle.replay_model.specs.State.{Replay, start}
-use Rattle.replay_model.specs.Items.{IsFullOrder, Obeys, Item}
-use Rattle.replay_model.specs.Outcome.{Done, IsOutcome, cause_agrees, same}
+use Rattle.replay_model.specs.State.{Replay}
 use Rattle.replay_model.specs.Acts.{acts_of}
+use Rattle.replay_model.specs.Items.{story}
+use Rattle.replay_model.specs.Journal.{order_of}
+use Rattle.replay_model.specs.Outcome.{Done, IsOutcome, cause_agrees}
 use Rattle.replay_model.proofs.ActsOfOrders.{orders_drive}
-use Rattle.replay_law.proofs.Orders.{all_orders_agree}
-use Rattle.solo_recording.specs.Lone.{IsLone}
-use Rattle.solo_recording.specs.Recording.{SoloRecording, log_of_recording}
-use Rattle.solo_recording.specs.Laws.{IsRun}
-use Rattle.solo_recording.proofs.BoardClock.{clocked, alone, stays_lone}
-use Rattle.solo_recording.proofs.Solo.{orderly, obeyed}
-use Rattle.solo_recording.proofs.Outcome.{replayed}
-use Rattle.recorder.specs.Sources.{Sources}
-use Rattle.recorder.specs.Turns.{Ends, GoesOn}
-use Rattle.recorder.specs.Kept.{RecordsRun, Comes}
-use Rattle.outside.specs.Seen.{SeenShelf, ToldBefore}
+use Rattle.replay_law.specs.Laws.{IsReplayable}
+use Rattle.replay_law.proofs.Orders.{all_orders_agree, orders_tell_outcome}
+use Rattle.crew_recording.specs.Recording.{stream_in}
+use Rattle.crew_recording.proofs.Streams.{ended_at}
+use Rattle.room_laws.proofs.Judged.{order_sees_no_room}
+use Rattle.turn_model.specs.Board.{Terms}
+use Rattle.turn_model.specs.Lists.{Recorded}
+use Rattle.turn_laws.specs.EndLaws.{IsFull, IsAtConsole, greatest}
+use Rattle.crew_parts.specs.Boards.{World, spent, terms_of}
+use Rattle.recorded_turns.specs.Recordings.{RecordsInRounds, IsRightBy}
+use Rattle.recorded_turns.proofs.Recorded.{rounds_are_right, rounds_are_not_cut}
+use Rattle.report_view.specs.Report.{report}
 use Rattle.revirt_tool.specs.Tasks.{Wish}
 use Rattle.revirt_tool.specs.Files.{IsFetched, IsUntouched}
-use Rattle.revirt_tool.specs.Promise.{HoldsNow, EndsFull, AllEndThere, KeepsRecording, is_fault}
+use Rattle.revirt_tool.specs.Recordings.{Answered, EndsBy, Comes, begun}
+use Rattle.revirt_tool.specs.Promise.{HasHead, HoldsNow, EndsFull, AllEndThere, KeepsRecording, replay_at_start, is_fault}
+use Rattle.revirt_tool.specs.Replays.{IsReportable}
 use Rattle.revirt_tool.specs.Serving.{KeepsAs, RecordsAs, FailsToKeep, ImageAs}
+use Rattle.revirt_tool.proofs.Ended.{stream_ended, agrees_so}
+use Rattle.revirt_tool.proofs.Replayed.{at_end, reportable}
 use Rattle.revirt_tool.specs.declared.ending.File.TheVariants as files
 use Rattle.revirt_tool.specs.declared.ending.Ending.{Ending}
-use Rattle.revirt_tool.specs.declared.ending.Ending.TheVariants.{Usage, NotBuilt, TooLong, ImageRefused, Malformed, NoMemory, ShelfFault, Kept, Listed}
+use Rattle.revirt_tool.specs.declared.ending.Ending.TheVariants.{Usage, NotBuilt, TooLong, ImageRefused, Malformed, OtherImage, Disorderly, Diverged, NoMemory, ShelfFault, Kept, Listed}
 
--- What is recorded is orderly, obeyed and replayed, at the unit of its log.
-module _ (limit : ℕ) (image : Image) (cause : Cause) (items : List Item) (r : SoloRecording FlatState)
-    (run : IsRun page_bytes limit image.pages (flat_at_start image 1) items r) where
-  -- its log
-  abbrev made : Log
-  made = log_of_recording (board page_bytes) limit image.pages (start_digest image) cause r
+-- full orders of a replayable log agree, from the start of a board with as many harts as it has streams
+every : (log : Log) (image : Image) (is : IsReplayable log image) (harts : ℕ) (order : List ℕ) (end : Replay FlatState) → length log.streams ≡ harts
+    → (full : EndsFull log image harts order end) → AllEndThere log image harts order end full
+every log image is harts order end number =
+    subst (λ n. (full : EndsFull log image n order end) → AllEndThere log image n order end full) number
+    (λ full other t one.
+    let agree = all_orders_agree log image other order t end is one full in (
+      agree.0,
+      orders_drive (unit_of log) log (replay_at_start log image (length log.streams)) t other (one.0, one.1, one.2.leads)
+          ∙ ap (λ (x : Replay FlatState). Some x.flat) agree.0,
+      agree.1,
+    ))
 
-  is_orderly : IsOrderly made
-  is_orderly =
-      orderly (board page_bytes) IsLone (clocked page_bytes) limit image.pages (start_digest image) cause (flat_at_start image 1)
-      run.lone run.unmoved r items run.recorded
+-- a log is full where it is without room
+full_so : (terms : Terms) (log : Log) → IsFull terms (log_without_room log) → IsFull terms log
+full_so terms log full =
+    subst (λ n. terms.log_limit < n + size_in (unit_of log) (length log.streams) greatest) ((order_sees_no_room log).size_is (unit_of log))
+    (subst (λ n. terms.log_limit < size_of_log (unit_of log) (log_without_room log).streams + size_in (unit_of log) n greatest)
+    (length-map log.streams stream_without_room) full)
 
-  is_full : EndsFull made image (replicate (length items) 0) r.at
-  is_full =
-      obeyed (board page_bytes) IsLone (clocked page_bytes) limit image.pages (start_digest image) cause (flat_at_start image 1)
-      run.lone run.unmoved r items run.recorded
-      (λ h. alone page_bytes r.at.flat (stays_lone page_bytes limit image.pages (flat_at_start image 1) r items run.lone run.unmoved run.recorded) h)
+-- What a recording in rounds comes to.
+module _ (w : Wish) (image : Image) (o p : World) (log : Log) (ended : Final) (journal turns : List (ℕ × ℕ))
+    (is : RecordsInRounds (begun w image o) p log ended journal turns) where
+  abbrev right : IsRightBy (begun w image o) is.given log journal turns is.at
+  right = rounds_are_right (begun w image o) p log ended journal turns is
 
-  is_replayed : cause_agrees (board page_bytes) made r.at.flat ≡ true → IsOutcome (board page_bytes) made (flat_at_start image 1) (Done r.at.flat)
-  is_replayed agrees =
-      replayed (board page_bytes) IsLone (clocked page_bytes) limit image.pages (start_digest image) cause (flat_at_start image 1)
-      run.lone run.unmoved r items run.recorded agrees
+  abbrev end : Replay FlatState
+  end = right.right.end
 
-  every : IsWhole image → AllEndThere made image (replicate (length items) 0) r.at is_full
-  every whole other t one =
-      let agree = all_orders_agree made image other (replicate (length items) 0) t r.at
-      (record { orderly = is_orderly; whole = whole; pages = refl }) one is_full in (
-        agree.0,
-        orders_drive page_bytes made (start made (flat_at_start image 1)) t other (one.0, one.1, one.2.leads) ∙ ap (λ x. Some x.flat) agree.0,
-        agree.1,
-      )
+  number : length log.streams ≡ w.harts
+  number = right.right.harts_are ∙ length-map-range_with_len (λ id. hart_at_start id w.harts image.pages image.entry) 0 w.harts
 
--- while the run goes on, its cause is neither stop nor limit
-goes_on : (limit : ℕ) (r : SoloRecording FlatState) → GoesOn limit r
-    → (same false ((board page_bytes).is_stopped r.at.flat)
-    && same false (not ((board page_bytes).is_stopped r.at.flat) && (((board page_bytes).count r.at.flat 0 == limit) && true))) ≡ true
-goes_on limit r goes =
-    let below = goes.below in
-    ap₂ (λ b c. same false b && same false (not b && (c && true))) goes.running
-    (ne_eqb ((board page_bytes).count r.at.flat 0) limit (λ e. omega (arith, below, e)))
+  replayable : IsReplayable log image
+  replayable = record { orderly = right.right.orderly; whole = is.limits.whole; pages = ap (λ (l : Log). l.pages) right.right.terms_are }
 
--- the cause with which a run ended agrees with its end
-agrees : (limit log_limit pages : ℕ) (image : List ℕ) (cause : Cause) (r : SoloRecording FlatState) → Ends limit log_limit r cause
-    → cause_agrees (board page_bytes) (log_of_recording (board page_bytes) limit pages image cause r) r.at.flat ≡ true
-agrees limit log_limit pages image causes.Stop r stopped =
-    ap (λ b. same true b && same false (not b && (((board page_bytes).count r.at.flat 0 == limit) && true))) stopped
-agrees limit log_limit pages image causes.Limit r ends =
-    ap₂ (λ b c. same false b && same true (not b && (c && true))) ends.0 (eq-eqb ((board page_bytes).count r.at.flat 0) limit ends.1)
-agrees limit log_limit pages image causes.Full r ends = goes_on limit r ends.0
-agrees limit log_limit pages image causes.Fault r ends = goes_on limit r ends.0
-agrees limit log_limit pages image causes.Cut r ends = absurd ends
+  full : EndsFull log image w.harts (order_of journal) end
+  full = right.right.obeyed
 
-keeps : (w : Wish) (file : List ℕ) (log : Log) (ended : Final) (text : List ℕ) (fault : Bool) (s t : SeenShelf) (o p : Sources)
-    → IsFetched files.Image w.image s file → broken_rule w.pages file ≡ None → Comes (image_of w.pages file) w.limit w.log_limit o p log ended
+  done : IsOutcome (board (unit_of log)) log (flat_at_start image (length log.streams)) (Done is.at)
+  done =
+      orders_tell_outcome log image (order_of journal) end (Done is.at) replayable
+      (subst (λ n. EndsFull log image n (order_of journal) end) (sym number) full) right.right.done
+
+  replayed : IsOutcome (board (unit_of log)) log (flat_at_start image w.harts) (Done end.flat)
+  replayed =
+      subst (λ n. IsOutcome (board (unit_of log)) log (flat_at_start image n) (Done end.flat)) number
+      (subst (λ s. IsOutcome (board (unit_of log)) log (flat_at_start image (length log.streams)) (Done s)) (sym right.right.ended) done)
+
+  final : ended ≡ final_of end.flat log.cause
+  final = is.ended_is ∙ ap (λ s. final_of s log.cause) (sym right.right.ended)
+
+  pub has_report : IsReportable ended
+  has_report = subst IsReportable (sym is.ended_is) (reportable log image replayable is.at done)
+
+  pub can_be_written : in_range log ≡ true
+  can_be_written = right.range
+
+  answered : Answered o p log ended.sent
+  answered =
+      let taken = right.right.taken in
+      record {
+        answers = λ tells. (
+          taken.asked,
+          is.gives.answers tells ∙ ap (λ a. o.console.answers ++ a) (taken.answers_are ∙ append-nil taken.asked),
+          taken.agree.console,
+        );
+        times = λ tells. (
+          taken.times,
+          is.gives.times tells ∙ ap (λ a. o.clock.answers ++ a) (taken.times_are ∙ append-nil taken.times),
+          taken.agree.clock,
+        );
+        taken = is.taken;
+      }
+
+  ends : EndsBy (begun w image o) log is.at
+  ends =
+      let at = at_end log image replayable is.at done in
+      let so = agrees_so log is.at (subst (λ s. cause_agrees (board (unit_of log)) log s ≡ true) at.1 at.0) in
+      let Limit : ℕ → ℕ → Type 0 = λ harts limit.
+      (log.cause ≡ causes.Limit) ↔ ((is.at.devices.stop ≡ None) × ((h : ℕ) → h < harts → slice_index is.at.counts h ≡ limit)) in
+      record {
+        stop = so.0;
+        limit = subst (λ n. Limit w.harts n) (ap (λ (l : Log). l.limit) right.right.terms_are) (subst (λ n. Limit n log.limit) number so.1);
+        full = λ full. full_so (terms_of (begun w image o)) log (right.tells.full full);
+        fault = λ fault. subst (λ n. IsAtConsole (terms_of (begun w image o)) n is.at) (length-map log.streams stream_without_room ∙ number)
+            (right.tells.fault fault);
+        cut = rounds_are_not_cut (begun w image o) p log ended journal turns is;
+      }
+
+  comes : Comes w image o p log ended journal turns
+  comes = record { run = is; answered = answered; ends = ends; range = right.range; size = right.size }
+
+  -- the same, told of the state to which the journal leads
+  abbrev told_there : Comes w image o p log (final_of end.flat log.cause) journal turns
+  told_there = record {
+    run = record {
+      limits = is.limits;
+      given = is.given;
+      gives = is.gives;
+      at = is.at;
+      ended_is = ap (λ s. final_of s log.cause) right.right.ended;
+      recorded = is.recorded;
+      faults = is.faults;
+      taken = subst (λ (e : Final). Takes e.sent o.console p.console) final is.taken;
+    };
+    answered = subst (λ (e : Final). Answered o p log e.sent) final answered;
+    ends = ends;
+    range = right.range;
+    size = right.size;
+  }
+
+  -- its log says what was asked for, and each stream ends at its hart's count
+  head : image.pages ≡ w.pages → HasHead w image end.flat log
+  head same =
+      let made = is.recorded spent (λ fault. (refl, refl)) in
+      let closed = made.closed in
+      let there : closed.at.flat ≡ end.flat = sym (ap (λ (r : Recorded FlatState). r.ended) made.recorded) ∙ sym right.right.ended in
+      let streams = ap (λ (r : Recorded FlatState). r.log.streams) made.recorded in
+      let long : length closed.streams ≡ w.harts =
+      sym (length-map (enumerate_from 0 closed.streams) _ ∙ length-enumerate_from 0 closed.streams) ∙ sym (ap length streams)
+      ∙ length-map log.streams stream_without_room ∙ number in
+      record {
+        pages = ap (λ (l : Log). l.pages) right.right.terms_are ∙ same;
+        limit = ap (λ (l : Log). l.limit) right.right.terms_are;
+        start_is = ap (λ (l : Log). l.image) right.right.terms_are;
+        harts = number;
+        streams = λ h inside.
+            subst (λ (s : FlatState). (entries : List Entry) × (stream log h ≡ entries ++ End (slice_index s.counts h) ∷ [])) there
+            (stream_ended (stream log h) (stream_in closed.streams h) (slice_index closed.at.flat.counts h)
+            (sym ((order_sees_no_room log).streams_are h) ∙ ap (λ ss. stream_in ss h) streams
+            ∙ ended_at (slice_index closed.at.flat.counts) closed.streams h (omega (arith, inside, long))));
+      }
+
+keeps : (w : Wish) (file : List ℕ) (log : Log) (ended : Final) (journal turns : List (ℕ × ℕ)) (text : List ℕ) (fault : Bool) (s t : SeenShelf) (o p : World)
+    → IsFetched files.Image w.image s file → broken_rule w.pages file ≡ None
+    → RecordsInRounds (begun w (image_of w.pages file) o) p log ended journal turns
     → HoldsNow w (spelling log) (ended.memory ++ ended.sent) s t → length (spelling log) ≡ size_of_log (unit_of log) log.streams
     → reading (spelling log) ≡ Ok (log_without_room log) → text ≡ report ended → fault ≡ is_fault ended.cause
     → KeepsRecording w text fault s t o p
-keeps w file log ended text fault s t o p fetched accepted comes holds long again told fault_is =
-    let run = comes.run in
-    let size = run.size in
+keeps w file log ended journal turns text fault s t o p fetched accepted is holds long again told fault_is =
     let image = image_of w.pages file in
-    let order = replicate (length run.items) 0 in
-    let full : (f : EndsFull log image order run.end.at) × AllEndThere log image order run.end.at f =
-    subst (λ l. (f : EndsFull l image order run.end.at) × AllEndThere l image order run.end.at f) (sym run.log_is)
-    (is_full w.limit image log.cause run.items run.end run.recorded, every w.limit image log.cause run.items run.end run.recorded run.whole) in
+    let final_is = final w image o p log ended journal turns is in
+    let size = (right w image o p log ended journal turns is).size in
+    let there = end w image o p log ended journal turns is in
+    let full_there = full w image o p log ended journal turns is in
     record {
       file = file;
       fetched = fetched;
       accepted = accepted;
       log = log;
-      entries = run.end.stream;
-      end = run.end.at;
-      head = record {
-        pages = ap (λ l. l.pages) run.log_is;
-        limit = ap (λ l. l.limit) run.log_is;
-        start_is = ap (λ l. l.image) run.log_is;
-        streams = ap (λ l. l.streams) run.log_is;
-      };
-      orderly = subst IsOrderly (sym run.log_is) (is_orderly w.limit image log.cause run.items run.end run.recorded);
-      comes = subst (λ e. Comes image w.limit w.log_limit o p log e) run.ended_is comes;
-      items = length run.items;
-      full = full.0;
-      every = full.1;
-      replayed = subst (λ l. IsOutcome (board page_bytes) l (flat_at_start image 1) (Done run.end.at.flat)) (sym run.log_is)
-          (is_replayed w.limit image log.cause run.items run.end run.recorded
-          (agrees w.limit w.log_limit image.pages (start_digest image) log.cause run.end run.ends));
+      journal = journal;
+      turns = turns;
+      end = there;
+      head = head w image o p log ended journal turns is refl;
+      comes = told_there w image o p log ended journal turns is;
+      ends_there = sym (right w image o p log ended journal turns is).right.ended;
+      orderly = (right w image o p log ended journal turns is).right.orderly;
+      full = full_there;
+      lean = (right w image o p log ended journal turns is).lean;
+      every = every log image (replayable w image o p log ended journal turns is) w.harts (order_of journal) there
+          (number w image o p log ended journal turns is) full_there;
+      replayed = replayed w image o p log ended journal turns is;
+      kept = subst (λ (e : Final). HoldsNow w (spelling log) (e.memory ++ e.sent) s t) final_is holds;
       within = omega (arith, long, size);
       again = again;
-      kept = subst (λ e. HoldsNow w (spelling log) (e.memory ++ e.sent) s t) run.ended_is holds;
-      reported = told ∙ ap report run.ended_is;
-      fault_is = fault_is ∙ ap (λ e. is_fault e.cause) run.ended_is;
+      reported = told ∙ ap report final_is;
+      fault_is = fault_is ∙ ap (λ (e : Final). is_fault e.cause) final_is;
     }
 
 holds_since : (w : Wish) (log dump : List ℕ) (s m t : SeenShelf) → IsUntouched s m → ToldBefore m.tells t.tells → HoldsNow w log dump m t
@@ -158,20 +246,21 @@ fails_since w log s m t same tells fails = record {
   log_first = ⊎_elim (λ dump. inl (λ told. each_same w.dump s m t (same.held (tells told)) (dump told))) (λ kept. inr kept) fails.log_first;
 }
 
-untouched : (s m t : SeenShelf) → IsUntouched s m → ToldBefore m.tells t.tells → IsUntouched m t → IsUntouched s t
+pub untouched : (s m t : SeenShelf) → IsUntouched s m → ToldBefore m.tells t.tells → IsUntouched m t → IsUntouched s t
 untouched s m t same tells kept = record {
   held = λ told n. kept.held told n ∙ same.held (tells told) n;
   faults = kept.faults ∙ same.faults;
 }
 
 -- a run that was recorded, and what keeping it came to
-pub records : (w : Wish) (s m t : SeenShelf) (o p : Sources) (image : Image) (log : Log) (ended : Final) (ending : Ending)
-    → ImageAs w s m (Ok image) → ToldBefore m.tells t.tells → Comes image w.limit w.log_limit o p log ended
+pub records : (w : Wish) (s m t : SeenShelf) (o p : World) (image : Image) (log : Log) (ended : Final)
+    (journal turns : List (ℕ × ℕ)) (ending : Ending)
+    → ImageAs w s m (Ok image) → ToldBefore m.tells t.tells → RecordsInRounds (begun w image o) p log ended journal turns
     → KeepsAs w log ended m t ending → RecordsAs w s t o p ending
-records w s m t o p image log ended NoMemory read tells comes kept =
+records w s m t o p image log ended journal turns NoMemory read tells is kept =
     let file = read.1 in
     (untouched s m t read.0 tells kept, inr (record { file = file.0; fetched = file.1; accepted = file.2 }))
-records w s m t o p image log ended ShelfFault read tells comes kept =
+records w s m t o p image log ended journal turns ShelfFault read tells is kept =
     let file = read.1 in
     inr (record {
       file = file.0;
@@ -179,22 +268,28 @@ records w s m t o p image log ended ShelfFault read tells comes kept =
       accepted = file.2;
       log = log;
       ended = ended;
-      comes = subst (λ i. Comes i w.limit w.log_limit o p log ended) file.3 comes;
+      journal = journal;
+      turns = turns;
+      comes = subst (λ i. Comes w i o p log ended journal turns) file.3 (comes w image o p log ended journal turns is);
       fails = fails_since w (spelling log) s m t read.0 tells kept;
     })
-records w s m t o p image log ended (Kept text fault) read tells comes kept =
+records w s m t o p image log ended journal turns (Kept text fault) read tells is kept =
     let file = read.1 in
-    keeps w file.0 log ended text.items fault s t o p file.1 file.2 (subst (λ i. Comes i w.limit w.log_limit o p log ended) file.3 comes)
+    keeps w file.0 log ended journal turns text.items fault s t o p file.1 file.2
+    (subst (λ i. RecordsInRounds (begun w i o) p log ended journal turns) file.3 is)
     (holds_since w (spelling log) (ended.memory ++ ended.sent) s m t read.0 tells kept.0) kept.1 kept.2 kept.3 kept.4
-records w s m t o p image log ended (Usage place) read tells comes kept = absurd kept
-records w s m t o p image log ended NotBuilt read tells comes kept = absurd kept
-records w s m t o p image log ended (TooLong file) read tells comes kept = absurd kept
-records w s m t o p image log ended (ImageRefused rule) read tells comes kept = absurd kept
-records w s m t o p image log ended (Malformed offset rule) read tells comes kept = absurd kept
-records w s m t o p image log ended (Listed listing judged) read tells comes kept = absurd kept
+records w s m t o p image log ended journal turns (Usage place) read tells is kept = absurd kept
+records w s m t o p image log ended journal turns NotBuilt read tells is kept = absurd kept
+records w s m t o p image log ended journal turns (TooLong file) read tells is kept = absurd kept
+records w s m t o p image log ended journal turns (ImageRefused rule) read tells is kept = absurd kept
+records w s m t o p image log ended journal turns (Malformed offset rule) read tells is kept = absurd kept
+records w s m t o p image log ended journal turns (OtherImage named has) read tells is kept = absurd kept
+records w s m t o p image log ended journal turns (Disorderly rule hart entry) read tells is kept = absurd kept
+records w s m t o p image log ended journal turns (Diverged hart count rule) read tells is kept = absurd kept
+records w s m t o p image log ended journal turns (Listed listing judged) read tells is kept = absurd kept
 
 -- an image that isn't there for the run
-pub refuses : (w : Wish) (s t : SeenShelf) (o : Sources) (ending : Ending) → ImageAs w s t (Err ending) → RecordsAs w s t o o ending
+pub refuses : (w : Wish) (s t : SeenShelf) (o : World) (ending : Ending) → ImageAs w s t (Err ending) → RecordsAs w s t o o ending
 refuses w s t o (TooLong files.Image) read = (read, refl)
 refuses w s t o (TooLong files.Log) read = absurd read
 refuses w s t o (ImageRefused rule) read = (read.0, (read.1, refl))
@@ -203,12 +298,8 @@ refuses w s t o ShelfFault read = inl (read, refl)
 refuses w s t o (Usage place) read = absurd read
 refuses w s t o NotBuilt read = absurd read
 refuses w s t o (Malformed offset rule) read = absurd read
+refuses w s t o (OtherImage named has) read = absurd read
+refuses w s t o (Disorderly rule hart entry) read = absurd read
+refuses w s t o (Diverged hart count rule) read = absurd read
 refuses w s t o (Kept text fault) read = absurd read
 refuses w s t o (Listed listing judged) read = absurd read
-
--- its run has one hart, with one count
-pub one_count : (image : Image) (limit log_limit : ℕ) (log : Log) (ended : Final) → RecordsRun image limit log_limit log ended
-    → length ended.harts ≡ length ended.counts
-one_count image limit log_limit log ended run =
-    let lone = stays_lone page_bytes limit image.pages (flat_at_start image 1) run.end run.items run.recorded.lone run.recorded.unmoved run.recorded.recorded in
-    ap (λ e. length e.harts) run.ended_is ∙ ap length lone.2 ∙ sym (ap length lone.3) ∙ sym (ap (λ e. length e.counts) run.ended_is)

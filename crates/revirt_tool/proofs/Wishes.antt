@@ -1,42 +1,93 @@
 -- What the words ask for.
-use Rattle.std.proofs.Common.{◌≡◌, ◌≢◌, ℕ, Bool, List, Option, Some, None, Result, Ok, Err, option_map, IfSome, refl, sym, ap, ◌∙◌, subst}
+use Rattle.std.proofs.Common.{◌≡◌, ◌≢◌, ℕ, Bool, true, false, List, Option, Some, None, Result, Ok, Err, option_map, IfSome, inl, inr, refl, sym, ap, ◌∙◌, subst}
+use Rattle.std.specs.Prelude.{if◌then◌else◌, IsOk, is_ok}
 use Rattle.std.proofs.lemmas.Option.{none-some, same_Some}
 use Rattle.command_words.specs.declared.job.Job.{Job}
-use Rattle.command_words.specs.declared.job.Job.TheVariants.{Record, Inspect}
+use Rattle.command_words.specs.declared.job.Job.TheVariants.{Record, Replay, Inspect, Trace}
+use Rattle.command_words.specs.declared.job.Way.{Way}
 use Rattle.command_words.specs.Texts.{word_at}
 use Rattle.command_words.specs.Allowed.{KeepsApart}
 use Rattle.command_words.specs.Grammar.{job_of}
 use Rattle.outside.specs.Seen.{SeenShelf}
-use Rattle.recorder.specs.Sources.{Sources}
-use Rattle.revirt_tool.specs.Tasks.{Wish, Task, Records, Lists, task, task_of, IsFetchedBy, Fetches}
+use Rattle.crew_parts.specs.Boards.{World}
+use Rattle.revirt_tool.specs.Tasks.{Wish, ReplayWish, TraceWish, Task, Records, Replays, Traces, Lists, traced, task, task_of, in_rounds, IsFetchedBy, Fetches}
 use Rattle.revirt_tool.specs.Listings.{InspectsAs}
+use Rattle.revirt_tool.specs.Replays.{ReplaysAs}
+use Rattle.revirt_tool.specs.Traces.{TracesAs}
 use Rattle.revirt_tool.specs.Serving.{RecordsAs, TaskAs, EndsAs}
 use Rattle.revirt_tool.specs.declared.ending.Ending.{Ending}
-use Rattle.revirt_tool.specs.declared.ending.Ending.TheVariants.{Usage, NotBuilt, TooLong, ImageRefused, Malformed, NoMemory, ShelfFault, Kept, Listed}
+use Rattle.revirt_tool.specs.declared.ending.Ending.TheVariants.{Usage, NotBuilt, TooLong, ImageRefused, Malformed, OtherImage, Disorderly, Diverged, NoMemory, ShelfFault, Kept, Listed}
 
-abbrev wished : List ℕ → List ℕ → Option (List ℕ) → ℕ → ℕ → ℕ → Wish
-wished image log dump pages limit log_limit = record { image = image; log = log; dump = dump; pages = pages; limit = limit; log_limit = log_limit }
+abbrev wished : List ℕ → List ℕ → Option (List ℕ) → ℕ → ℕ → ℕ → ℕ → Wish
+wished image log dump harts pages limit log_limit =
+    record { image = image; log = log; dump = dump; harts = harts; pages = pages; limit = limit; log_limit = log_limit }
 
 -- the task of words that are read as a job
 read_as : (words : List (List ℕ)) (job : Job) (a : Option Task) → job_of words ≡ Ok job → task_of words job ≡ a → task words ≡ a
 read_as words job a read is = ap (λ (r : Result Job ℕ). elim r [ Ok j ↦ task_of words j | Err place ↦ None ]) read ∙ is
 
--- words of a recording of one hart ask for it, by its names
+-- words of a recording ask for it, by its names
 pub wishes : (words : List (List ℕ)) (job : Job) (image log harts pages limit log_limit : ℕ) (dump : Option ℕ) (rounds : Bool) (a b : List ℕ)
     (d : Option (List ℕ))
-    → job_of words ≡ Ok job → job ≡ Record image log harts pages limit log_limit dump rounds → harts ≡ 1
+    → job_of words ≡ Ok job → job ≡ Record image log harts pages limit log_limit dump rounds
     → a ≡ word_at words image → b ≡ word_at words log → d ≡ option_map (word_at words) dump
-    → task words ≡ Some (Records (wished a b d pages limit log_limit))
-wishes words job image log harts pages limit log_limit dump rounds a b d read is one image_is log_is dump_is =
+    → task words ≡ Some (Records (wished a b d harts pages limit log_limit))
+wishes words job image log harts pages limit log_limit dump rounds a b d read is image_is log_is dump_is =
     read_as words job _ read
-    (ap (task_of words) (is ∙ ap (λ h. Record image log h pages limit log_limit dump rounds) one)
-    ∙ ap (λ n. Some (Records (wished n (word_at words log) (option_map (word_at words) dump) pages limit log_limit))) (sym image_is)
-    ∙ ap (λ n. Some (Records (wished a n (option_map (word_at words) dump) pages limit log_limit))) (sym log_is)
-    ∙ ap (λ n. Some (Records (wished a b n pages limit log_limit))) (sym dump_is))
+    (ap (task_of words) is
+    ∙ ap (λ n. Some (Records (wished n (word_at words log) (option_map (word_at words) dump) harts pages limit log_limit))) (sym image_is)
+    ∙ ap (λ n. Some (Records (wished a n (option_map (word_at words) dump) harts pages limit log_limit))) (sym log_is)
+    ∙ ap (λ n. Some (Records (wished a b n harts pages limit log_limit))) (sym dump_is))
 
 -- and have its image fetched
 pub fetches : (words : List (List ℕ)) (w : Wish) → task words ≡ Some (Records w) → Fetches words w.image
 fetches words w is = subst (λ a. IsFetchedBy a w.image) (sym is) refl
+
+-- words of a replay ask for it, by its names
+pub replays : (words : List (List ℕ)) (job : Job) (image log : ℕ) (dump : Option ℕ) (way : Way) (a b : List ℕ) (d : Option (List ℕ))
+    → job_of words ≡ Ok job → job ≡ Replay image log dump way → in_rounds way ≡ false
+    → a ≡ word_at words image → b ≡ word_at words log → d ≡ option_map (word_at words) dump
+    → task words ≡ Some (Replays (record { image = a; log = b; dump = d }))
+replays words job image log dump way a b d read is alone image_is log_is dump_is =
+    read_as words job _ read
+    (ap (task_of words) is
+    ∙ ap (λ r. if r then None
+    else Some (Replays (record { image = word_at words image; log = word_at words log; dump = option_map (word_at words) dump }))) alone
+    ∙ ap (λ n. Some (Replays (record { image = n; log = word_at words log; dump = option_map (word_at words) dump }))) (sym image_is)
+    ∙ ap (λ n. Some (Replays (record { image = a; log = n; dump = option_map (word_at words) dump }))) (sym log_is)
+    ∙ ap (λ n. Some (Replays (record { image = a; log = b; dump = n }))) (sym dump_is))
+
+-- but not of one in rounds
+pub replays_none : (words : List (List ℕ)) (job : Job) (image log : ℕ) (dump : Option ℕ) (way : Way)
+    → job_of words ≡ Ok job → job ≡ Replay image log dump way → in_rounds way ≡ true → task words ≡ None
+replays_none words job image log dump way read is rounds =
+    read_as words job _ read
+    (ap (task_of words) is
+    ∙ ap (λ r. if r then None
+    else Some (Replays (record { image = word_at words image; log = word_at words log; dump = option_map (word_at words) dump }))) rounds)
+
+-- words in the grammar that ask for no task end in a command that isn't built
+pub not_built : (words : List (List ℕ)) (job : Job) (s : SeenShelf) (o p : World) (ending : Ending) → job_of words ≡ Ok job → task words ≡ None
+    → ending ≡ NotBuilt → p ≡ o → EndsAs words s s o p ending
+not_built words job s o p ending read none is same =
+    subst (λ e. EndsAs words s s o p e) (sym is) (ap is_ok read, none, (record { held = λ told n. refl; faults = refl }, same))
+
+-- a replay has both files fetched
+pub fetches_log : (words : List (List ℕ)) (w : ReplayWish) → task words ≡ Some (Replays w) → Fetches words w.log
+fetches_log words w is = subst (λ a. IsFetchedBy a w.log) (sym is) (inl refl)
+
+pub fetches_image : (words : List (List ℕ)) (w : ReplayWish) → task words ≡ Some (Replays w) → Fetches words w.image
+fetches_image words w is = subst (λ a. IsFetchedBy a w.image) (sym is) (inr refl)
+
+-- words of a trace ask for it
+pub traces : (words : List (List ℕ)) (job : Job) (image log hart from to : ℕ) (a b : List ℕ)
+    → job_of words ≡ Ok job → job ≡ Trace image log hart from to → a ≡ word_at words image → b ≡ word_at words log
+    → task words ≡ Some (Traces (traced a b hart from to))
+traces words job image log hart from to a b read is image_is log_is =
+    read_as words job _ read
+    (ap (task_of words) is
+    ∙ ap (λ n. Some (Traces (traced n (word_at words log) hart from to))) (sym image_is)
+    ∙ ap (λ n. Some (Traces (traced a n hart from to))) (sym log_is))
 
 -- words of a listing ask for it, by its log
 pub lists : (words : List (List ℕ)) (job : Job) (log : ℕ) (name : List ℕ) → job_of words ≡ Ok job → job ≡ Inspect log → name ≡ word_at words log
@@ -64,27 +115,56 @@ dump_is_other now o words job image log harts pages limit log_limit dump rounds 
     subst (KeepsApart words) recording apart (p.2 ∙ same ∙ log_is))
 
 -- what comes of a recording is what comes of the words
-pub ends_as : (words : List (List ℕ)) (w : Wish) (s t : SeenShelf) (o p : Sources) (ending : Ending) → task words ≡ Some (Records w)
+pub ends_as : (words : List (List ℕ)) (w : Wish) (s t : SeenShelf) (o p : World) (ending : Ending) → task words ≡ Some (Records w)
     → RecordsAs w s t o p ending → EndsAs words s t o p ending
 ends_as words w s t o p (Usage place) is records = absurd records
 ends_as words w s t o p NotBuilt is records = absurd records
 ends_as words w s t o p (TooLong file) is records = (Records w, is, records)
 ends_as words w s t o p (ImageRefused rule) is records = (Records w, is, records)
 ends_as words w s t o p (Malformed offset rule) is records = absurd records
+ends_as words w s t o p (OtherImage named has) is records = absurd records
+ends_as words w s t o p (Disorderly rule hart entry) is records = absurd records
+ends_as words w s t o p (Diverged hart count rule) is records = absurd records
 ends_as words w s t o p NoMemory is records = (Records w, is, records)
 ends_as words w s t o p ShelfFault is records = (Records w, is, records)
 ends_as words w s t o p (Kept report fault) is records = (Records w, is, records)
 ends_as words w s t o p (Listed listing orderly) is records = absurd records
 
 -- and so of a listing, which asks neither console nor clock
-pub lists_as : (words : List (List ℕ)) (name : List ℕ) (s t : SeenShelf) (o p : Sources) (ending : Ending) → task words ≡ Some (Lists name)
+pub lists_as : (words : List (List ℕ)) (name : List ℕ) (s t : SeenShelf) (o p : World) (ending : Ending) → task words ≡ Some (Lists name)
     → InspectsAs name s t ending → p ≡ o → EndsAs words s t o p ending
 lists_as words name s t o p (Usage place) is lists same = absurd lists
 lists_as words name s t o p NotBuilt is lists same = absurd lists
 lists_as words name s t o p (TooLong file) is lists same = (Lists name, is, (lists, same))
 lists_as words name s t o p (ImageRefused rule) is lists same = absurd lists
 lists_as words name s t o p (Malformed offset rule) is lists same = (Lists name, is, (lists, same))
+lists_as words name s t o p (OtherImage named has) is lists same = absurd lists
+lists_as words name s t o p (Disorderly rule hart entry) is lists same = absurd lists
+lists_as words name s t o p (Diverged hart count rule) is lists same = absurd lists
 lists_as words name s t o p NoMemory is lists same = (Lists name, is, (lists, same))
 lists_as words name s t o p ShelfFault is lists same = (Lists name, is, (lists, same))
 lists_as words name s t o p (Kept report fault) is lists same = absurd lists
 lists_as words name s t o p (Listed listing orderly) is lists same = (Lists name, is, (lists, same))
+
+-- and so of a replay
+pub replays_as : (words : List (List ℕ)) (w : ReplayWish) (s t : SeenShelf) (o p : World) (ending : Ending) → task words ≡ Some (Replays w)
+    → ReplaysAs w s t ending → p ≡ o → EndsAs words s t o p ending
+replays_as words w s t o p (Usage place) is ends same = absurd ends
+replays_as words w s t o p NotBuilt is ends same = absurd ends
+replays_as words w s t o p (TooLong file) is ends same = (Replays w, is, (ends, same))
+replays_as words w s t o p (ImageRefused rule) is ends same = (Replays w, is, (ends, same))
+replays_as words w s t o p (Malformed offset rule) is ends same = (Replays w, is, (ends, same))
+replays_as words w s t o p (OtherImage named has) is ends same = (Replays w, is, (ends, same))
+replays_as words w s t o p (Disorderly rule hart entry) is ends same = (Replays w, is, (ends, same))
+replays_as words w s t o p (Diverged hart count rule) is ends same = (Replays w, is, (ends, same))
+replays_as words w s t o p NoMemory is ends same = (Replays w, is, (ends, same))
+replays_as words w s t o p ShelfFault is ends same = (Replays w, is, (ends, same))
+replays_as words w s t o p (Kept report fault) is ends same = (Replays w, is, (ends, same))
+replays_as words w s t o p (Listed listing orderly) is ends same = absurd ends
+
+-- and so of a trace
+pub traces_as : (words : List (List ℕ)) (w : TraceWish) (s t : SeenShelf) (o p : World) (ending : Ending) → task words ≡ Some (Traces w)
+    → TracesAs w s t ending → p ≡ o → EndsAs words s t o p ending
+traces_as words w s t o p (Usage place) is ends same = absurd ends
+traces_as words w s t o p NotBuilt is ends same = absurd ends
+traces_as words w s t o p ending is ends same = (Traces w, is, (ends, same))

@@ -1,10 +1,10 @@
 -- The text and the status with which a command ends (docs/command-line.md).
-use Rattle.std.specs.Prelude.{ℕ, ◌≡◌, ◌⊎◌, Bool, true, false, List, codes, if◌then◌else◌}
+use Rattle.std.specs.Prelude.{ℕ, ◌≡◌, ◌≢◌, ◌⊎◌, Bool, true, false, List, [], codes, if◌then◌else◌}
 use Rattle.outside.specs.Causes.{Rose}
 use Rattle.outside.specs.Seen.{SeenSink, Writes, WritesPart}
-use Rattle.revirt_tool.specs.Lines.{usage_line, too_long_line, image_line, malformed_line, no_memory_line}
+use Rattle.revirt_tool.specs.Lines.{usage_line, too_long_line, image_line, malformed_line, other_line, disorderly_line, diverged_line, no_memory_line}
 use Rattle.revirt_tool.specs.declared.ending.Ending.{Ending}
-use Rattle.revirt_tool.specs.declared.ending.Ending.TheVariants.{Usage, NotBuilt, TooLong, ImageRefused, Malformed, NoMemory, ShelfFault, Kept, Listed}
+use Rattle.revirt_tool.specs.declared.ending.Ending.TheVariants.{Usage, NotBuilt, TooLong, ImageRefused, Malformed, OtherImage, Disorderly, Diverged, NoMemory, ShelfFault, Kept, Listed}
 
 abbrev pub text_of : Ending → List ℕ
 text_of (Usage place) = usage_line place
@@ -12,6 +12,9 @@ text_of NotBuilt = codes "not built\n"
 text_of (TooLong file) = too_long_line file
 text_of (ImageRefused rule) = image_line rule
 text_of (Malformed offset rule) = malformed_line offset rule
+text_of (OtherImage log image) = other_line log image
+text_of (Disorderly rule hart entry) = disorderly_line rule hart entry
+text_of (Diverged hart count rule) = diverged_line hart count rule
 text_of NoMemory = no_memory_line
 text_of ShelfFault = codes "shelf fault\n"
 text_of (Kept report fault) = report.items
@@ -24,6 +27,9 @@ status_of NotBuilt = 12
 status_of (TooLong file) = 9
 status_of (ImageRefused rule) = 2
 status_of (Malformed offset rule) = 6
+status_of (OtherImage log image) = 10
+status_of (Disorderly rule hart entry) = 7
+status_of (Diverged hart count rule) = 8
 status_of NoMemory = 3
 status_of ShelfFault = 4
 status_of (Kept report fault) = if fault then 5 else 0
@@ -40,6 +46,9 @@ abbrev pub has_number : Ending → Bool
 has_number (Usage place) = true
 has_number (ImageRefused rule) = true
 has_number (Malformed offset rule) = true
+has_number (OtherImage log image) = true
+has_number (Disorderly rule hart entry) = true
+has_number (Diverged hart count rule) = true
 has_number ending = false
 
 -- the sink gained exactly this text
@@ -47,8 +56,9 @@ pub record Prints (text : List ℕ) (s t : SeenSink) : Type 0 where
   pub written : Writes text s t
   pub faults : t.faults ≡ s.faults
 
--- the sink failed, and gained at most some first part of the text
+-- the sink failed at a text that isn't empty, and gained at most some first part of it
 pub record FailsToPrint (text : List ℕ) (s t : SeenSink) : Type 0 where
+  pub some : text ≢ []
   pub written : WritesPart text s t
   pub faults : Rose s.faults t.faults
 

@@ -2,7 +2,10 @@ pub mod Tasks
 pub mod Files
 pub mod Lines
 pub mod Listings
+pub mod Replays
+pub mod Traces
 pub mod Closing
+pub mod Recordings
 pub mod Promise
 pub mod Serving
 pub mod Complete

@@ -1,6 +1,7 @@
 -- The lines of refusals (docs/command-line.md).
 use Rattle.std.specs.Prelude.{ℕ, List, ◌++◌, codes}
 use Rattle.std.specs.Fmt.{decimal}
+use Rattle.hex.specs.Hex.{encode_lower}
 use Rattle.revirt_tool.specs.declared.ending.File.{File}
 use Rattle.revirt_tool.specs.declared.ending.File.TheVariants.{Image, Log}
 
@@ -23,6 +24,14 @@ orderly_line = codes "orderly\n"
 abbrev pub disorderly_line : ℕ → ℕ → ℕ → List ℕ
 disorderly_line rule hart entry =
     codes "disorderly: rule O" ++ (decimal rule ++ (codes " hart " ++ (decimal hart ++ (codes " entry " ++ (decimal entry ++ codes "\n")))))
+
+-- the start digests that a log names and that an image has
+abbrev pub other_line : List ℕ → List ℕ → List ℕ
+other_line log image = codes "other image: " ++ (encode_lower log ++ (codes " " ++ (encode_lower image ++ codes "\n")))
+
+abbrev pub diverged_line : ℕ → ℕ → ℕ → List ℕ
+diverged_line hart count rule =
+    codes "diverged: hart " ++ (decimal hart ++ (codes " count " ++ (decimal count ++ (codes " rule V" ++ (decimal rule ++ codes "\n")))))
 
 abbrev pub no_memory_line : List ℕ
 no_memory_line = codes "no memory\n"

@@ -13,12 +13,14 @@ use Rattle.log_entry.specs.Size.{size_of_log}
 use Rattle.log_entry.specs.Room.{log_without_room}
 use Rattle.log_format.specs.Grammar.{spelling, reading}
 use Rattle.report_view.specs.Report.{report}
-use Rattle.recorder.specs.Kept.{Comes}
-use Rattle.recorder.specs.Sources.{Sources, sources}
+use Rattle.crew_parts.specs.Boards.{World, world}
 use Rattle.revirt_tool.specs.Closing.{Closes}
-use Rattle.revirt_tool.specs.Tasks.{Wish, Task, Records, Lists, task}
+use Rattle.revirt_tool.specs.Tasks.{Wish, Task, Records, Replays, Traces, Lists, task}
 use Rattle.revirt_tool.specs.Files.{IsFetched, IsUntouched, FailsToFetch, IsTooLong}
 use Rattle.revirt_tool.specs.Listings.{InspectsAs}
+use Rattle.revirt_tool.specs.Replays.{ReplaysAs}
+use Rattle.revirt_tool.specs.Traces.{TracesAs}
+use Rattle.revirt_tool.specs.Recordings.{Comes}
 use Rattle.revirt_tool.specs.Promise.{HoldsNow, KeepsRecording, is_fault}
 use Rattle.revirt_tool.specs.declared.ending.File.TheVariants as files
 use Rattle.revirt_tool.specs.declared.ending.Ending.{Ending}
@@ -43,17 +45,19 @@ pub record FailsToKeep (w : Wish) (log : List ℕ) (s t : SeenShelf) : Type 0 wh
   pub log_first : (IsTrue t.tells → IfSome w.dump (λ name. t.held name ≡ s.held name)) ⊎ Holds t w.log log
 
 -- a run was recorded that couldn't be kept
-pub record IsUnkept (w : Wish) (s t : SeenShelf) (o p : Sources) : Type 0 where
+pub record IsUnkept (w : Wish) (s t : SeenShelf) (o p : World) : Type 0 where
   pub file : List ℕ
   pub fetched : IsFetched files.Image w.image s file
   pub accepted : broken_rule w.pages file ≡ None
   pub log : Log
   pub ended : Final
-  pub comes : Comes (image_of w.pages file) w.limit w.log_limit o p log ended
+  pub journal : List (ℕ × ℕ)
+  pub turns : List (ℕ × ℕ)
+  pub comes : Comes w (image_of w.pages file) o p log ended journal turns
   pub fails : FailsToKeep w (spelling log) s t
 
 -- nothing was kept, and neither console nor clock was asked
-abbrev pub IsRefusal : SeenShelf → SeenShelf → Sources → Sources → Type 0
+abbrev pub IsRefusal : SeenShelf → SeenShelf → World → World → Type 0
 IsRefusal s t o p = IsUntouched s t × (p ≡ o)
 
 -- what fetching and reading the image comes to
@@ -80,7 +84,7 @@ KeepsAs w log ended s t (Kept text fault) =
 KeepsAs w log ended s t ending = ⊥
 
 -- how a recording ends
-abbrev pub RecordsAs : Wish → SeenShelf → SeenShelf → Sources → Sources → Ending → Type 0
+abbrev pub RecordsAs : Wish → SeenShelf → SeenShelf → World → World → Ending → Type 0
 RecordsAs w s t o p (TooLong files.Image) = IsTooLong files.Image w.image s t × (p ≡ o)
 RecordsAs w s t o p (ImageRefused rule) = IsRefused w s rule × IsRefusal s t o p
 RecordsAs w s t o p NoMemory = IsUntouched s t × ((p ≡ o) ⊎ IsAccepted w s)
@@ -88,13 +92,15 @@ RecordsAs w s t o p ShelfFault = (FailsToFetch s t × (p ≡ o)) ⊎ IsUnkept w 
 RecordsAs w s t o p (Kept report fault) = KeepsRecording w report.items fault s t o p
 RecordsAs w s t o p ending = ⊥
 
--- how what the words ask for ends; a listing asks neither console nor clock
-abbrev pub TaskAs : Task → SeenShelf → SeenShelf → Sources → Sources → Ending → Type 0
+-- how what the words ask for ends; replays, traces and listings ask neither console nor clock
+abbrev pub TaskAs : Task → SeenShelf → SeenShelf → World → World → Ending → Type 0
 TaskAs (Records w) s t o p ending = RecordsAs w s t o p ending
+TaskAs (Replays w) s t o p ending = ReplaysAs w s t ending × (p ≡ o)
+TaskAs (Traces w) s t o p ending = TracesAs w s t ending × (p ≡ o)
 TaskAs (Lists name) s t o p ending = InspectsAs name s t ending × (p ≡ o)
 
 -- how the words end: outside the grammar, in a command that isn't built, or in what they ask for
-abbrev pub EndsAs : List (List ℕ) → SeenShelf → SeenShelf → Sources → Sources → Ending → Type 0
+abbrev pub EndsAs : List (List ℕ) → SeenShelf → SeenShelf → World → World → Ending → Type 0
 EndsAs words s t o p (Usage place) = (job_of words ≡ Err place) × IsRefusal s t o p
 EndsAs words s t o p NotBuilt = IsOk (job_of words) × (task words ≡ None) × IsRefusal s t o p
 EndsAs words s t o p ending = (a : Task) × (task words ≡ Some a) × TaskAs a s t o p ending
@@ -102,11 +108,11 @@ EndsAs words s t o p ending = (a : Task) × (task words ≡ Some a) × TaskAs a 
 -- what is seen around a call: of the shelf, of console and clock, and of the sink of the report
 pub record Around : Type 0 where
   pub shelf : SeenShelf
-  pub sources : Sources
+  pub sources : World
   pub sink : SeenSink
 
 abbrev pub around : SeenShelf → SeenConsole → SeenClock → SeenSink → Around
-around shelf console clock sink = record { shelf = shelf; sources = sources console clock; sink = sink }
+around shelf console clock sink = record { shelf = shelf; sources = world console clock; sink = sink }
 
 -- the whole contract of the top calls
 abbrev pub Serves : List (List ℕ) → Around → Around → ℕ → Type 0

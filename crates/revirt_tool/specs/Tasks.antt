@@ -1,16 +1,21 @@
 -- What the words ask for, of what the program serves (docs/command-line.md).
-use Rattle.std.specs.Prelude.{ℕ, zero, suc, ◌≡◌, ◌≢◌, List, Option, Some, None, option_map, Ok, Err}
+use Rattle.std.specs.Prelude.{ℕ, ◌≡◌, ◌≢◌, ◌⊎◌, Bool, true, false, if◌then◌else◌, List, Option, Some, None, option_map, Ok, Err}
 use Rattle.command_words.specs.Texts.{word_at}
 use Rattle.command_words.specs.Grammar.{job_of}
 use Rattle.command_words.specs.declared.job.Job.{Job}
-use Rattle.command_words.specs.declared.job.Job.TheVariants.{Record, Inspect}
+use Rattle.command_words.specs.declared.job.Job.TheVariants.{Record, Replay, Inspect, Trace}
+use Rattle.command_words.specs.declared.job.Way.{Way}
+use Rattle.command_words.specs.declared.job.Way.TheVariants.{Rounds}
 use Rattle.revirt_tool.specs.declared.recording.Request.{Request}
+use Rattle.revirt_tool.specs.declared.replaying.ReplayRequest.{ReplayRequest}
+use Rattle.revirt_tool.specs.declared.tracing.TraceRequest.{TraceRequest}
 
 -- what the words of a recording ask for
 pub record Wish : Type 0 where
   pub image : List ℕ
   pub log : List ℕ
   pub dump : Option (List ℕ)
+  pub harts : ℕ
   pub pages : ℕ
   pub limit : ℕ
   pub log_limit : ℕ
@@ -21,26 +26,62 @@ wish_by r = record {
   image = r.image.now;
   log = r.log.now;
   dump = option_map (λ d. d.now) r.dump;
+  harts = r.harts;
   pages = r.pages;
   limit = r.limit;
   log_limit = r.log_limit;
 }
 
--- a recording of one hart, or the listing of the log of this name
+-- what the words of a replay ask for
+pub record ReplayWish : Type 0 where
+  pub image : List ℕ
+  pub log : List ℕ
+  pub dump : Option (List ℕ)
+
+-- a replay by its names
+abbrev pub replay_by : ReplayRequest → ReplayWish
+replay_by r = record { image = r.image.now; log = r.log.now; dump = option_map (λ d. d.now) r.dump }
+
+-- what the words of a trace ask for: a replay that keeps no dump, and the moves of a hart from a count on, below another
+pub record TraceWish : Type 0 where
+  pub files : ReplayWish
+  pub hart : ℕ
+  pub from : ℕ
+  pub to : ℕ
+
+abbrev pub traced : List ℕ → List ℕ → ℕ → ℕ → ℕ → TraceWish
+traced image log hart from to = record { files = record { image = image; log = log; dump = None }; hart = hart; from = from; to = to }
+
+-- a trace by its names
+abbrev pub trace_by : TraceRequest → TraceWish
+trace_by r = traced r.image.now r.log.now r.hart r.from r.to
+
+-- a recording, a replay, a trace, or the listing of the log of this name
 pub data Task : Type 0 where
   Records : Wish → Task
+  Replays : ReplayWish → Task
+  Traces : TraceWish → Task
   Lists : List ℕ → Task
 
+abbrev pub in_rounds : Way → Bool
+in_rounds Rounds = true
+in_rounds way = false
+
 abbrev pub task_of : List (List ℕ) → Job → Option Task
-task_of words (Record image log (suc zero) pages limit log_limit dump rounds) =
+task_of words (Record image log harts pages limit log_limit dump rounds) =
     Some (Records (record {
       image = word_at words image;
       log = word_at words log;
       dump = option_map (word_at words) dump;
+      harts = harts;
       pages = pages;
       limit = limit;
       log_limit = log_limit;
     }))
+task_of words (Replay image log dump way) =
+    if in_rounds way then None
+    else Some (Replays (record { image = word_at words image; log = word_at words log; dump = option_map (word_at words) dump }))
+task_of words (Trace image log hart from to) = Some (Traces (traced (word_at words image) (word_at words log) hart from to))
 task_of words (Inspect log) = Some (Lists (word_at words log))
 task_of words job = None
 
@@ -50,6 +91,8 @@ task words = elim (job_of words) [ Ok job ↦ task_of words job | Err place ↦ 
 
 abbrev pub IsFetchedBy : Option Task → List ℕ → Type 0
 IsFetchedBy (Some (Records w)) name = name ≡ w.image
+IsFetchedBy (Some (Replays r)) name = (name ≡ r.log) ⊎ (name ≡ r.image)
+IsFetchedBy (Some (Traces w)) name = (name ≡ w.files.log) ⊎ (name ≡ w.files.image)
 IsFetchedBy (Some (Lists log)) name = name ≡ log
 IsFetchedBy None name = ⊥
 

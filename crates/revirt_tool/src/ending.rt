@@ -1,11 +1,11 @@
 //! How a command ends: its status, and the text that it prints.
 
-ghost use Rattle.std.specs.Prelude.{◌≡◌, List, ℕ};
-ghost use Rattle.revirt_tool.specs.Lines.{too_long_line};
+ghost use Rattle.std.specs.Prelude.{◌≡◌, List, ℕ, IfOk, string_bytes};
+ghost use Rattle.revirt_tool.specs.Lines.{too_long_line, disorderly_line, other_line};
 ghost use Rattle.revirt_tool.specs.Closing.{PrintsOrFails, Closes};
 
 use outside::{Clock, Console, Sink};
-use std::alloc::Global;
+use std::alloc::{AllocError, Global};
 
 /// A file that a command fetches.
 #[derive(Clone, Copy, Debug, PartialEq, Eq)]
@@ -26,9 +26,15 @@ pub enum Ending {
     ImageRefused { rule: u8 },
     /// The first bad field of the log, by its offset, and the rule that it breaks.
     Malformed { offset: u64, rule: u8 },
+    /// The start digests that the log names and that the image has.
+    OtherImage { log: [u8; 32], image: [u8; 32] },
+    /// The least rule that the log breaks, and the least hart and entry that break it.
+    Disorderly { rule: u8, hart: u8, entry: u32 },
+    /// The least hart that diverged in a replay, its count, and the rule.
+    Diverged { hart: u8, count: u64, rule: u8 },
     NoMemory,
     ShelfFault,
-    /// The run's report, and whether the console failed in the run.
+    /// The report of a run or of a replay, or the trace of one, and whether the console failed in the run.
     Kept { report: Vec<u8>, fault: bool },
     /// The listing of a log, and whether the log is orderly.
     Listed { listing: Vec<u8>, orderly: bool },
@@ -52,14 +58,41 @@ pub(crate) fn without_run<C: Console, K: Clock>(ending: Ending, console: C, cloc
     }
 }
 
-/// Prints a text, and gives the status where it is printed, or the other one.
+/// Prints a text, and gives the status where it is printed, or the other one. For an empty text the sink isn't asked.
 fn print<R: Sink>(text: &[u8], printed: u8, failed: u8, report: &mut R) -> u8
     ensures { PrintsOrFails text.now printed failed (R.seen report.old) (R.seen report.new) result }
 {
+    if text.is_empty() {
+        return printed;
+    }
     match report.put(text) {
         Ok(()) => printed,
         Err(_) => failed,
     }
+}
+
+/// The line of a log that breaks an order rule.
+pub(crate) fn disorderly_line(
+    alloc: Global,
+    rule: u8,
+    hart: u8,
+    entry: u32,
+) -> Result<String, AllocError>
+    ensures { IfOk result (λ s. string_bytes s ≡ disorderly_line rule hart entry) }
+{
+    format!(in alloc; "disorderly: rule O{rule} hart {hart} entry {entry}\n")
+}
+
+/// The line of a log that names another image's start.
+fn other_line(alloc: Global, log: &[u8], image: &[u8]) -> Result<String, AllocError>
+    ensures { IfOk result (λ s. string_bytes s ≡ other_line log.now image.now) }
+{
+    let mut line = String::from_str(alloc, "other image: ")?;
+    line.push_str(hex::encode(alloc, log)?.as_str())?;
+    line.push_str(" ")?;
+    line.push_str(hex::encode(alloc, image)?.as_str())?;
+    line.push_str("\n")?;
+    Ok(line)
 }
 
 fn too_long(file: File) -> &'static [u8]
@@ -89,6 +122,22 @@ pub(crate) fn close<R: Sink>(alloc: Global, ending: Ending, report: &mut R) -> u
         Ending::Malformed { offset, rule } => {
             match format!(in alloc; "malformed: offset {offset} rule M{rule}\n") {
                 Ok(line) => print(line.as_bytes(), 6, 6, report),
+                Err(_) => print(b"no memory\n", 3, 3, report),
+            }
+        }
+        Ending::OtherImage { log, image } => match other_line(alloc, &log, &image) {
+            Ok(line) => print(line.as_bytes(), 10, 10, report),
+            Err(_) => print(b"no memory\n", 3, 3, report),
+        },
+        Ending::Disorderly { rule, hart, entry } => match disorderly_line(
+            alloc, rule, hart, entry,
+        ) {
+            Ok(line) => print(line.as_bytes(), 7, 7, report),
+            Err(_) => print(b"no memory\n", 3, 3, report),
+        },
+        Ending::Diverged { hart, count, rule } => {
+            match format!(in alloc; "diverged: hart {hart} count {count} rule V{rule}\n") {
+                Ok(line) => print(line.as_bytes(), 8, 8, report),
                 Err(_) => print(b"no memory\n", 3, 3, report),
             }
         }

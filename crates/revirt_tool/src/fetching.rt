@@ -1,10 +1,13 @@
 //! The files that commands fetch.
 
-ghost use Rattle.std.specs.Prelude.{◌≡◌};
+ghost use Rattle.std.specs.Prelude.{◌≡◌, ◌↔◌, ℕ, List};
 ghost use Rattle.outside.specs.Seen.{ToldBefore};
 ghost use Rattle.revirt_tool.specs.Files.{longest, FileAs};
+ghost use Rattle.revirt_tool.specs.Listings.{LogAs};
 
 use crate::ending::{Ending, File};
+use log_entry::Log;
+use log_format::{ReadError, read_log};
 use outside::{FetchError, Shelf};
 use std::alloc::Global;
 
@@ -28,6 +31,7 @@ pub(crate) fn file_for<S: Shelf>(
     requires { S.has shelf.old name.now }
     ensures writing { (S.seen shelf.new).writing ≡ (S.seen shelf.old).writing }
     ensures tells { ToldBefore (S.seen shelf.old).tells (S.seen shelf.new).tells }
+    ensures has { (n : List ℕ) → S.has shelf.new n ↔ S.has shelf.old n }
     ensures file { FileAs (λ v. v.items) file name.now (S.seen shelf.old) (S.seen shelf.new) result }
 {
     match shelf.fetch(alloc, name, longest(file)) {
@@ -35,5 +39,24 @@ pub(crate) fn file_for<S: Shelf>(
         Err(FetchError::Failed) => Err(Ending::ShelfFault),
         Err(FetchError::TooLong) => Err(Ending::TooLong { file }),
         Err(FetchError::NoMemory) => Err(Ending::NoMemory),
+    }
+}
+
+/// The log of this name.
+pub(crate) fn log_for<S: Shelf>(alloc: Global, name: &str, shelf: &mut S) -> Result<Log, Ending>
+    requires { S.has shelf.old name.now }
+    ensures writing { (S.seen shelf.new).writing ≡ (S.seen shelf.old).writing }
+    ensures tells { ToldBefore (S.seen shelf.old).tells (S.seen shelf.new).tells }
+    ensures has { (n : List ℕ) → S.has shelf.new n ↔ S.has shelf.old n }
+    ensures log { LogAs name.now (S.seen shelf.old) (S.seen shelf.new) result }
+{
+    let file = match file_for(alloc, File::Log, name, shelf) {
+        Ok(file) => file,
+        Err(ending) => return Err(ending),
+    };
+    match read_log(alloc, file.as_slice()) {
+        Ok(log) => Ok(log),
+        Err(ReadError::Malformed { offset, rule }) => Err(Ending::Malformed { offset, rule }),
+        Err(ReadError::NoMemory) => Err(Ending::NoMemory),
     }
 }

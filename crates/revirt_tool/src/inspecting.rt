@@ -5,35 +5,15 @@ ghost use Rattle.log_entry.specs.Range.{in_range};
 ghost use Rattle.log_inspect.specs.Listing.{listing};
 ghost use Rattle.log_inspect.specs.Totals.{totals};
 ghost use Rattle.log_inspect.specs.Table.{hand_over_lines};
-ghost use Rattle.outside.specs.Seen.{ToldBefore};
-ghost use Rattle.revirt_tool.specs.Listings.{IsListedAs, ListsAs, LogAs, InspectsAs};
+ghost use Rattle.revirt_tool.specs.Listings.{IsListedAs, ListsAs, InspectsAs};
 
-use crate::ending::{Ended, Ending, File, without_run};
-use crate::fetching::file_for;
+use crate::ending::{Ended, Ending, disorderly_line, without_run};
+use crate::fetching::log_for;
 use log_entry::Log;
-use log_format::{ReadError, read_log};
 use log_inspect::{hand_over_table, list_log, page_totals};
 use log_order::{OrderError, put_in_order};
 use outside::{Clock, Console, Shelf};
 use std::alloc::Global;
-
-/// The log of this name.
-fn log_for<S: Shelf>(alloc: Global, name: &str, shelf: &mut S) -> Result<Log, Ending>
-    requires { S.has shelf.old name.now }
-    ensures writing { (S.seen shelf.new).writing ≡ (S.seen shelf.old).writing }
-    ensures tells { ToldBefore (S.seen shelf.old).tells (S.seen shelf.new).tells }
-    ensures log { LogAs name.now (S.seen shelf.old) (S.seen shelf.new) result }
-{
-    let file = match file_for(alloc, File::Log, name, shelf) {
-        Ok(file) => file,
-        Err(ending) => return Err(ending),
-    };
-    match read_log(alloc, file.as_slice()) {
-        Ok(log) => Ok(log),
-        Err(ReadError::Malformed { offset, rule }) => Err(Ending::Malformed { offset, rule }),
-        Err(ReadError::NoMemory) => Err(Ending::NoMemory),
-    }
-}
 
 /// The listing without its last line.
 fn lines_of(alloc: Global, log: &Log) -> Result<Vec<u8>, Ending>
@@ -83,7 +63,7 @@ fn listed(alloc: Global, log: Log) -> Ending
     match put_in_order(alloc, log) {
         Ok(_) => ended_by(text, b"orderly\n", true),
         Err(OrderError::Disorderly { rule, hart, entry }) => {
-            match format!(in alloc; "disorderly: rule O{rule} hart {hart} entry {entry}\n") {
+            match disorderly_line(alloc, rule, hart, entry) {
                 Ok(line) => ended_by(text, line.as_bytes(), false),
                 Err(_) => Ending::NoMemory,
             }

@@ -91,7 +91,7 @@ orderly
 }
 
 /// Two harts that hand a page over to each other.
-fn race_log() -> &'static [u8] {
+pub(crate) fn race_log() -> &'static [u8] {
     &[
         82, 86, 84, 76, 1, 2, 2, 0, 8, 0, 0, 0, 0, 0, 0, 0, // the board
         89, 172, 65, 98, 64, 66, 12, 140, 238, 116, 122, 155, 107, 217, 12, 202, 200, 111, 68, 71,
@@ -140,7 +140,7 @@ orderly
 }
 
 /// Two harts whose first gains of a page have one number.
-fn twice_numbered_log() -> &'static [u8] {
+pub(crate) fn twice_numbered_log() -> &'static [u8] {
     &[
         82, 86, 84, 76, 1, 2, 1, 0, 0, 0, 0, 0, 0, 0, 0, 0, // the board
         0, 0, 0, 0, 0, 0, 0, 0, 0, 0, 0, 0, 0, 0, 0, 0, 0, 0, 0, 0, 0, 0, 0, 0, 0, 0, 0, 0, 0, 0,

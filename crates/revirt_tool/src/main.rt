@@ -1,6 +1,8 @@
-//! Records runs of a RISC-V board, and lists what their logs say (docs/command-line.md).
+//! Records runs of a RISC-V board, and replays them, and lists what their logs say (docs/command-line.md).
 #![tactic(auto)]
 
+#[cfg(test)]
+mod crew_tests;
 mod ending;
 mod fetching;
 mod inspecting;
@@ -8,14 +10,23 @@ mod inspecting;
 mod listing_tests;
 mod recording;
 #[cfg(test)]
+mod replay_tests;
+mod replaying;
+#[cfg(test)]
 mod tests;
 mod top;
+#[cfg(test)]
+mod trace_tests;
+mod tracing;
 
 use outside::{FileShelf, OpenGate, RealClock, Sink, StdConsole, StdSink};
 use std::env;
 use std::io::ErrorKind;
 use std::process::ExitCode;
-pub use top::{Finish, listings_are_done, recordings_are_done, revirt, revirt_still};
+pub use top::{
+    Finish, listings_are_done, recordings_are_done, recordings_are_one, replays_are_done, revirt,
+    revirt_still, traces_are_done,
+};
 
 /// Prints a line before there are objects for the top call, and gives its status.
 fn refuse(rt: HostRuntime, line: &[u8], status: u8) -> ExitCode {

@@ -3,37 +3,41 @@
 ghost use Rattle.std.specs.Prelude.{◌≡◌, ◌≢◌, ◌≤◌, ◌++◌, IsTrue, IsSome, Some, List, ℕ, false, length, is_ok, IfSome, OnOk, OnErr};
 ghost use Rattle.rv_words.specs.declared.shared.Cause.TheVariants as causes;
 ghost use Rattle.rv_words.specs.Limits.{most_pages};
+ghost use Rattle.rv_words.specs.declared.shared.TheConstants.{MAX_HARTS};
 ghost use Rattle.log_entry.specs.Range.{in_range};
 ghost use Rattle.outside.specs.Causes.{HasCause};
 ghost use Rattle.outside.specs.Seen.{ToldBefore, Holds, OthersHold};
-ghost use Rattle.recorder.specs.Sources.{sources};
+ghost use Rattle.crew_parts.specs.Boards.{world};
 ghost use Rattle.revirt_tool.specs.Tasks.{wish_by};
 ghost use Rattle.revirt_tool.specs.Serving.{ImageAs, KeepsAs, RecordsAs};
 
 use crate::ending::{Ended, Ending, File, without_run};
 use crate::fetching::file_for;
+use crew_core::{OutOfMemory, Recorded};
 use elf_image::{Image, ImageError, read_image};
 use flat_machine::Final;
 use log_entry::{Cause, Log};
 use log_format::write_log;
-use outside::{Clock, Console, Failed, Shelf, keep};
-use recorder::{OutOfMemory, SoloRecorded, record_one};
+use outside::{Clock, Console, Failed, Gate, Shelf, keep};
 use report_view::report_text;
+use round_run::record_rounds;
 use std::alloc::Global;
+use std::thread::Threads;
 
-/// What a recording is asked for: its files, the board's pages, and the limits of moves and of log bytes.
+/// What a recording is asked for: its files, the board's harts and pages, and the limits of moves and of log bytes.
 #[derive(Clone, Copy, Drop)]
 pub(crate) struct Request<'a> {
     pub image: &'a str,
     pub log: &'a str,
     pub dump: Option<&'a str>,
+    pub harts: u8,
     pub pages: u16,
     pub limit: u64,
     pub log_limit: u64,
 }
 
 /// Keeps the dump: the memory, and then the bytes sent to the console.
-fn keep_dump<S: Shelf>(shelf: &mut S, name: &str, ended: &Final) -> Result<(), Failed>
+pub(crate) fn keep_dump<S: Shelf>(shelf: &mut S, name: &str, ended: &Final) -> Result<(), Failed>
     requires writing { (S.seen shelf.old).writing ≡ false }
     ensures writing { (S.seen shelf.new).writing ≡ false }
     ensures tells { ToldBefore (S.seen shelf.old).tells (S.seen shelf.new).tells }
@@ -102,15 +106,19 @@ fn image_for<S: Shelf>(alloc: Global, request: &Request, shelf: &mut S) -> Resul
 }
 
 /// Records the run that is asked for.
-pub(crate) fn record<S: Shelf, C: Console, K: Clock>(
+pub(crate) fn record<T: Threads + Sync, S: Shelf, C: Console, K: Clock, G: Gate>(
+    rt: &T,
     alloc: Global,
     request: &Request,
     shelf: &mut S,
     console: C,
     clock: K,
+    gate: &G,
 ) -> Ended<C, K>
     requires writing { (S.seen shelf.old).writing ≡ false }
     requires has { S.has shelf.old request.now.image.now }
+    requires least_harts { 1 ≤ request.now.harts }
+    requires most_harts { request.now.harts ≤ MAX_HARTS }
     requires least { 1 ≤ request.now.pages }
     requires most { request.now.pages ≤ most_pages }
     requires limit { request.now.limit ≤ 1000000000000 }
@@ -120,20 +128,23 @@ pub(crate) fn record<S: Shelf, C: Console, K: Clock>(
     ensures writing { (S.seen shelf.new).writing ≡ false }
     ensures tells { ToldBefore (S.seen shelf.old).tells (S.seen shelf.new).tells }
     ensures records { RecordsAs (wish_by request.now) (S.seen shelf.old) (S.seen shelf.new)
-        (sources (C.seen console) (K.seen clock)) (sources (C.seen result.console) (K.seen result.clock))
+        (world (C.seen console) (K.seen clock)) (world (C.seen result.console) (K.seen result.clock))
         result.ending }
 {
     let image = match image_for(alloc, request, shelf) {
         Ok(image) => image,
         Err(ending) => return without_run(ending, console, clock),
     };
-    match record_one(
+    match record_rounds(
+        rt,
         alloc,
         &image,
+        request.harts,
         request.limit,
         request.log_limit,
         console,
         clock,
+        gate,
     ) {
         Err(OutOfMemory { console, clock }) => Ended {
             ending: Ending::NoMemory,
@@ -141,9 +152,11 @@ pub(crate) fn record<S: Shelf, C: Console, K: Clock>(
             clock,
         },
         Ok(
-            SoloRecorded {
+            Recorded {
                 log,
                 ended,
+                journal: _,
+                turns: _,
                 console,
                 clock,
             },

@@ -17,21 +17,26 @@ use std::thread::Threads;
 /// the same each time, with the numbers of the calls that fail; and what it comes to: its status, lines that
 /// its text has, the length of the log `l`, and the entries of the log.
 #[derive(Drop)]
-struct Row {
+pub(crate) struct Row {
     line: &'static str,
-    guest: &'static [u32],
+    pub guest: &'static [u32],
     answers: &'static [Asked],
     time: u64,
     shelf_fails: &'static [u64],
-    console_fails: &'static [u64],
+    pub console_fails: &'static [u64],
     sink_fails: &'static [u64],
     status: u8,
-    lines: &'static str,
-    length: usize,
-    entries: &'static str,
+    pub lines: &'static str,
+    pub length: usize,
+    pub entries: &'static str,
 }
 
-fn plain_row(line: &'static str, guest: &'static [u32], status: u8, lines: &'static str) -> Row {
+pub(crate) fn plain_row(
+    line: &'static str,
+    guest: &'static [u32],
+    status: u8,
+    lines: &'static str,
+) -> Row {
     Row {
         line,
         guest,
@@ -53,12 +58,12 @@ pub(crate) fn smallest() -> &'static [u32] {
 }
 
 /// JAL to itself.
-fn round() -> &'static [u32] {
+pub(crate) fn round() -> &'static [u32] {
     &[0x0000_006f]
 }
 
 /// LUI x1; ADDI x2 = 0x41; three stores to TX.
-fn sends() -> &'static [u32] {
+pub(crate) fn sends() -> &'static [u32] {
     &[
         0x1000_00b7,
         0x0410_0113,
@@ -68,8 +73,19 @@ fn sends() -> &'static [u32] {
     ]
 }
 
+/// Each of two harts adds 1 to the word behind the first page, and then runs in a circle.
+pub(crate) fn race_guest() -> &'static [u32] {
+    &[
+        0x8000_10b7,
+        0x0000_a103,
+        0x0011_0113,
+        0x0020_a023,
+        0x0000_006f,
+    ]
+}
+
 /// Runs that end at a limit.
-fn limits() -> [Row; 4] {
+pub(crate) fn limits() -> [Row; 4] {
     let mut none = plain_row("record g l --pages 1 --limit 0", round(), 0, "cause limit");
     none.length = 62;
     none.entries = "e0";
@@ -100,8 +116,28 @@ fn limits() -> [Row; 4] {
     [none, first, second, traps]
 }
 
+/// LUI x1; three loads from RX; a store to STOP.
+pub(crate) fn input_row() -> Row {
+    let mut input = plain_row(
+        "record g l --pages 1 --limit 100",
+        &[
+            0x1000_00b7,
+            0x0000_a103,
+            0x0000_a183,
+            0x0000_a203,
+            0x0000_a423,
+        ],
+        0,
+        "cause stop 0\nhart 0 count 5 pc 80000014\nx0 00000000 10000000 ffffffff 00000041 ffffffff 00000000 00000000 00000000",
+    );
+    input.answers = &[Asked::Nothing, Asked::Byte(0x41)];
+    input.length = 189;
+    input.entries = "p0:0.5.0 g0:0.0r t1:1.e t2:2.b65 t3:3.e t4:4.n e5";
+    input
+}
+
 /// Runs whose pages, timer, software interrupt and console are asked for.
-fn devices() -> [Row; 4] {
+pub(crate) fn devices() -> [Row; 4] {
     let mut pages = plain_row(
         "record g l --pages 2 --limit 5",
         &[
@@ -140,26 +176,11 @@ fn devices() -> [Row; 4] {
     );
     software.length = 145;
     software.entries = "p0:0.5.0 g0:0.0r t2:1.n t4:2.n e6";
-    let mut input = plain_row(
-        "record g l --pages 1 --limit 100",
-        &[
-            0x1000_00b7,
-            0x0000_a103,
-            0x0000_a183,
-            0x0000_a203,
-            0x0000_a423,
-        ],
-        0,
-        "cause stop 0\nhart 0 count 5 pc 80000014\nx0 00000000 10000000 ffffffff 00000041 ffffffff 00000000 00000000 00000000",
-    );
-    input.answers = &[Asked::Nothing, Asked::Byte(0x41)];
-    input.length = 189;
-    input.entries = "p0:0.5.0 g0:0.0r t1:1.e t2:2.b65 t3:3.e t4:4.n e5";
-    [pages, timer, software, input]
+    [pages, timer, software, input_row()]
 }
 
 /// Runs in which the console or the sink fails.
-fn failing_ends() -> [Row; 4] {
+pub(crate) fn failing_ends() -> [Row; 4] {
     let words = "record g l --pages 1 --limit 100 --dump d";
     let mut console = plain_row(words, sends(), 5, "cause fault");
     console.console_fails = &[2];
@@ -215,7 +236,7 @@ fn failing_shelves() -> [Row; 9] {
 }
 
 /// Commands that are refused before anything is begun.
-fn refusals() -> [Row; 11] {
+fn refusals() -> [Row; 10] {
     [
         plain_row("", smallest(), 1, "usage: word 0"),
         plain_row("record g", smallest(), 1, "usage: word 2"),
@@ -224,9 +245,8 @@ fn refusals() -> [Row; 11] {
         plain_row("record g l --limit 05", smallest(), 1, "usage: word 4"),
         plain_row("record g l --dump l", smallest(), 1, "usage: word 4"),
         plain_row("replay g l --one --rounds", smallest(), 1, "usage: word 4"),
-        plain_row("record g l --harts 2", smallest(), 12, "not built"),
-        plain_row("replay g l", smallest(), 12, "not built"),
-        plain_row("trace g l 0 0 3", smallest(), 12, "not built"),
+        plain_row("replay g l --rounds", smallest(), 12, "not built"),
+        plain_row("trace g l 0 3 2", smallest(), 1, "usage: word 5"),
         plain_row("sample 7", smallest(), 12, "not built"),
     ]
 }
@@ -250,14 +270,14 @@ pub(crate) fn words_of(alloc: Global, line: &str) -> Result<Vec<String>, Fail> {
 
 /// What a run came to.
 #[derive(Drop)]
-struct Ran {
+pub(crate) struct Ran {
     status: u8,
-    shelf: MemShelf,
-    report: MemSink,
+    pub shelf: MemShelf,
+    pub report: MemSink,
     console: MemConsole,
 }
 
-fn serve<T: Threads + Wait + Sync>(
+pub(crate) fn serve<T: Threads + Wait + Sync>(
     rt: &T,
     alloc: Global,
     row: &Row,
@@ -292,7 +312,7 @@ fn serve<T: Threads + Wait + Sync>(
 }
 
 /// Whether a text has all these lines.
-fn has_lines(text: &[u8], lines: &str) -> bool {
+pub(crate) fn has_lines(text: &[u8], lines: &str) -> bool {
     let Ok(text) = std::str::from_utf8(text) else {
         return false;
     };
@@ -371,7 +391,11 @@ fn is_log(alloc: Global, held: Option<&[u8]>, length: usize, entries: &str) -> R
     }
 }
 
-fn comes_true<T: Threads + Wait + Sync>(rt: &T, alloc: Global, row: &Row) -> Result<bool, Fail> {
+pub(crate) fn comes_true<T: Threads + Wait + Sync>(
+    rt: &T,
+    alloc: Global,
+    row: &Row,
+) -> Result<bool, Fail> {
     let file = bytes_of(alloc, row.guest)?;
     let ran = serve(rt, alloc, row, file.as_slice())?;
     let kept = is_log(alloc, ran.shelf.held("l"), row.length, row.entries)?;
@@ -435,7 +459,7 @@ pub(crate) fn smallest_log() -> [u8; 123] {
     ]
 }
 
-fn smallest_report() -> &'static str {
+pub(crate) fn smallest_report() -> &'static str {
     "cause stop 7
 hart 0 count 3 pc 8000000c
 x0 00000000 10000000 00000007 00000000 00000000 00000000 00000000 00000000
@@ -621,11 +645,16 @@ fn is_full(alloc: Global, held: Option<&[u8]>, end: &str) -> Result<bool, Fail> 
     }
 }
 
+/// A run whose log has room for 42 Polls.
+pub(crate) fn full_row() -> Row {
+    let words = "record g l --pages 1 --limit 1000000 --log-limit 1024";
+    plain_row(words, round(), 0, "")
+}
+
 #[test]
 fn a_full_log_ends_the_run(rt: HostRuntime) -> Result<(), Fail> {
     let alloc = rt.alloc();
-    let words = "record g l --pages 1 --limit 1000000 --log-limit 1024";
-    let row = plain_row(words, round(), 0, "");
+    let row = full_row();
     let file = bytes_of(alloc, round())?;
     let ran = serve(&rt, alloc, &row, file.as_slice())?;
     assert_eq!(rt; ran.status, 0);

@@ -3,15 +3,17 @@
 ghost use Rattle.std.specs.Prelude.{◌≡◌, ◌<◌, ℕ, List, IsTrue, IfSome, Some, None, false, length, option_map};
 ghost use Rattle.command_words.specs.Texts.{texts, word_at};
 ghost use Rattle.command_words.specs.Grammar.{asks_free_run};
-ghost use Rattle.revirt_tool.specs.Tasks.{Fetches, AsksNoRun};
+ghost use Rattle.revirt_tool.specs.Tasks.{Fetches, AsksNoRun, in_rounds};
 ghost use Rattle.revirt_tool.specs.Serving.{EndsAs, around, Serves};
-ghost use Rattle.recorder.specs.Sources.{sources};
-ghost use Rattle.revirt_tool.specs.Complete.{AreDone, HasImage, HasLog, KeptAreLogs};
+ghost use Rattle.crew_parts.specs.Boards.{world};
+ghost use Rattle.revirt_tool.specs.Complete.{AreDone, HasImage, HasLog, KeptAreLogs, ReplaysAreDone, TracesAreDone, KeptAreReplayed, SameAreKept};
 
 use crate::ending::{Ended, Ending, close, without_run};
 use crate::inspecting::inspect;
 use crate::recording::{Request, record};
-use command_words::{Job, Usage, read_words};
+use crate::replaying::{ReplayRequest, replay};
+use crate::tracing::{TraceRequest, trace};
+use command_words::{Job, Usage, Way, read_words};
 use outside::{Clock, Console, Gate, Shelf, Sink};
 use std::alloc::Global;
 use std::sync::Wait;
@@ -44,18 +46,26 @@ fn word_where(words: &[String], place: Option<u64>) -> Option<&str>
     }
 }
 
-fn serve<S: Shelf, C: Console, K: Clock>(
+fn in_rounds(way: Way) -> bool
+    ensures { result ≡ in_rounds way }
+{
+    way == Way::Rounds
+}
+
+fn serve<T: Threads + Sync, S: Shelf, C: Console, K: Clock, G: Gate>(
+    rt: &T,
     alloc: Global,
     words: &[String],
     shelf: &mut S,
     console: C,
     clock: K,
+    gate: &G,
 ) -> Ended<C, K>
     requires writing { (S.seen shelf.old).writing ≡ false }
     requires has { (name : List ℕ) → Fetches (texts words.now) name → S.has shelf.old name }
     ensures writing { (S.seen shelf.new).writing ≡ false }
     ensures ends { EndsAs (texts words.now) (S.seen shelf.old) (S.seen shelf.new)
-        (sources (C.seen console) (K.seen clock)) (sources (C.seen result.console) (K.seen result.clock))
+        (world (C.seen console) (K.seen clock)) (world (C.seen result.console) (K.seen result.clock))
         result.ending }
     ensures as_handed_in { AsksNoRun (texts words.now) → (result.console ≡ console) × (result.clock ≡ clock) }
 {
@@ -65,7 +75,7 @@ fn serve<S: Shelf, C: Console, K: Clock>(
             Job::Record {
                 image,
                 log,
-                harts: 1,
+                harts,
                 pages,
                 limit,
                 log_limit,
@@ -77,11 +87,48 @@ fn serve<S: Shelf, C: Console, K: Clock>(
                 image: word(words, image),
                 log: word(words, log),
                 dump: word_where(words, dump),
+                harts,
                 pages,
                 limit,
                 log_limit,
             };
-            record(alloc, &request, shelf, console, clock)
+            record(rt, alloc, &request, shelf, console, clock, gate)
+        }
+        Ok(
+            Job::Replay {
+                image,
+                log,
+                dump,
+                way,
+            },
+        ) => {
+            if in_rounds(way) {
+                return without_run(Ending::NotBuilt, console, clock);
+            }
+            let request = ReplayRequest {
+                image: word(words, image),
+                log: word(words, log),
+                dump: word_where(words, dump),
+            };
+            replay(alloc, &request, shelf, console, clock)
+        }
+        Ok(
+            Job::Trace {
+                image,
+                log,
+                hart,
+                from,
+                to,
+            },
+        ) => {
+            let request = TraceRequest {
+                image: word(words, image),
+                log: word(words, log),
+                hart,
+                from,
+                to,
+            };
+            trace(alloc, &request, shelf, console, clock)
         }
         Ok(Job::Inspect { log }) => inspect(alloc, word(words, log), shelf, console, clock),
         Ok(_) => without_run(Ending::NotBuilt, console, clock),
@@ -90,13 +137,13 @@ fn serve<S: Shelf, C: Console, K: Clock>(
 
 /// Serves every command but free runs, and returns.
 pub fn revirt_still<T: Threads + Sync, S: Shelf, C: Console, K: Clock, G: Gate, R: Sink>(
-    _rt: &T,
+    rt: &T,
     alloc: Global,
     words: &[String],
     shelf: &mut S,
     console: C,
     clock: K,
-    _gate: &G,
+    gate: &G,
     report: &mut R,
 ) -> Finish<C, K>
     requires still { asks_free_run (texts words.now) ≡ false }
@@ -113,7 +160,7 @@ pub fn revirt_still<T: Threads + Sync, S: Shelf, C: Console, K: Clock, G: Gate, 
         ending,
         console,
         clock,
-    } = serve(alloc, words, shelf, console, clock);
+    } = serve(rt, alloc, words, shelf, console, clock, gate);
     Finish {
         status: close(alloc, ending, report),
         console,
@@ -149,9 +196,27 @@ pub fn recordings_are_done()
     ensures { AreDone HasImage }
 {}
 
+/// Two recordings of one image by the same words, for which console and clock gave the same, keep the same bytes.
+pub fn recordings_are_one()
+    ensures { SameAreKept }
+{}
+
 /// A listing of an orderly log that is told, in which nothing fails, is done, or memory ran out; a log that a recording
 /// kept is such a log.
 pub fn listings_are_done()
     ensures done { AreDone HasLog }
     ensures kept { KeptAreLogs }
+{}
+
+/// A replay of a log over the image that it names, which are told and come to an end, is done with the report of that
+/// end where nothing fails, or memory ran out; such are a log that a recording kept and its image, with the report that
+/// the recording printed.
+pub fn replays_are_done()
+    ensures done { ReplaysAreDone }
+    ensures kept { KeptAreReplayed }
+{}
+
+/// A trace of such a log over such an image is told where nothing fails, or memory ran out.
+pub fn traces_are_done()
+    ensures { TracesAreDone }
 {}

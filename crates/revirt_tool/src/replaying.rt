@@ -1,0 +1,166 @@
+//! The command that replays a log.
+
+ghost use Rattle.std.specs.Prelude.{◌≡◌, ◌≢◌, IsTrue, IfSome, false};
+ghost use Rattle.elf_image.specs.Image.{IsWhole};
+ghost use Rattle.log_entry.specs.Range.{in_range};
+ghost use Rattle.outside.specs.Seen.{ToldBefore};
+ghost use Rattle.revirt_tool.specs.Tasks.{replay_by};
+ghost use Rattle.revirt_tool.specs.Replays.{StartAs, OrderAs, OutcomeAs, IsReportable, KeepsReplayAs, ReplaysAs};
+
+use crate::ending::{Ended, Ending, File, without_run};
+use crate::fetching::{file_for, log_for};
+use crate::recording::keep_dump;
+use elf_image::{Image, ImageError, read_image};
+use flat_machine::Final;
+use log_entry::Log;
+use log_order::{OrderError, Orderly, put_in_order};
+use outside::{Clock, Console, Shelf};
+use replay_core::{Outcome, replay_one};
+use report_view::report_text;
+use std::alloc::Global;
+
+/// What a replay is asked for: its files.
+#[derive(Clone, Copy, Drop)]
+pub(crate) struct ReplayRequest<'a> {
+    pub image: &'a str,
+    pub log: &'a str,
+    pub dump: Option<&'a str>,
+}
+
+/// The image that a log was recorded from.
+pub(crate) fn start_for<S: Shelf>(
+    alloc: Global,
+    name: &str,
+    log: &Log,
+    shelf: &mut S,
+) -> Result<Image, Ending>
+    requires has { S.has shelf.old name.now }
+    requires range { IsTrue (in_range log.now) }
+    ensures writing { (S.seen shelf.new).writing ≡ (S.seen shelf.old).writing }
+    ensures tells { ToldBefore (S.seen shelf.old).tells (S.seen shelf.new).tells }
+    ensures start { StartAs name.now log.now (S.seen shelf.old) (S.seen shelf.new) result }
+{
+    let file = match file_for(alloc, File::Image, name, shelf) {
+        Ok(file) => file,
+        Err(ending) => return Err(ending),
+    };
+    let image = match read_image(alloc, file.as_slice(), log.pages) {
+        Ok(image) => image,
+        Err(ImageError::Refused(rule)) => return Err(Ending::ImageRefused { rule }),
+        Err(ImageError::NoMemory) => return Err(Ending::NoMemory),
+    };
+    let digest = image.digest();
+    if digest == log.image {
+        Ok(image)
+    } else {
+        Err(Ending::OtherImage {
+            log: log.image,
+            image: digest,
+        })
+    }
+}
+
+/// The log, where it is orderly.
+pub(crate) fn in_order(alloc: Global, log: Log) -> Result<Orderly, Ending>
+    requires { IsTrue (in_range log) }
+    ensures { OrderAs log result }
+{
+    match put_in_order(alloc, log) {
+        Ok(orderly) => Ok(orderly),
+        Err(OrderError::Disorderly { rule, hart, entry }) => {
+            Err(Ending::Disorderly { rule, hart, entry })
+        }
+        Err(OrderError::NoMemory) => Err(Ending::NoMemory),
+    }
+}
+
+/// Where the replay of a log ends.
+fn outcome_of(alloc: Global, log: Log, image: &Image) -> Result<Final, Ending>
+    requires range { IsTrue (in_range log) }
+    requires whole { IsWhole image.now }
+    requires pages { log.pages ≡ image.now.pages }
+    ensures { OutcomeAs log image.now result }
+{
+    let orderly = match in_order(alloc, log) {
+        Ok(orderly) => orderly,
+        Err(ending) => return Err(ending),
+    };
+    match replay_one(alloc, orderly, image) {
+        Ok(Outcome::Done(end)) => Ok(end),
+        Ok(
+            Outcome::Diverged {
+                hart,
+                count,
+                why,
+                state: _,
+            },
+        ) => Err(Ending::Diverged {
+            hart,
+            count,
+            rule: why,
+        }),
+        Err(_) => Err(Ending::NoMemory),
+    }
+}
+
+/// Keeps the dump, where one is asked for.
+fn keep_end<S: Shelf>(alloc: Global, request: &ReplayRequest, end: &Final, shelf: &mut S) -> Ending
+    requires writing { (S.seen shelf.old).writing ≡ false }
+    requires end { IsReportable end.now }
+    ensures writing { (S.seen shelf.new).writing ≡ false }
+    ensures tells { ToldBefore (S.seen shelf.old).tells (S.seen shelf.new).tells }
+    ensures keeps { KeepsReplayAs (replay_by request.now) end.now (S.seen shelf.old) (S.seen shelf.new) result }
+{
+    let Ok(report) = report_text(alloc, end) else {
+        return Ending::NoMemory;
+    };
+    if let Some(name) = request.dump {
+        if keep_dump(shelf, name, end).is_err() {
+            return Ending::ShelfFault;
+        }
+    }
+    Ending::Kept {
+        report,
+        fault: false,
+    }
+}
+
+fn replayed<S: Shelf>(alloc: Global, request: &ReplayRequest, shelf: &mut S) -> Ending
+    requires writing { (S.seen shelf.old).writing ≡ false }
+    requires log { S.has shelf.old request.now.log.now }
+    requires image { S.has shelf.old request.now.image.now }
+    ensures writing { (S.seen shelf.new).writing ≡ false }
+    ensures replays { ReplaysAs (replay_by request.now) (S.seen shelf.old) (S.seen shelf.new) result }
+{
+    let log = match log_for(alloc, request.log, shelf) {
+        Ok(log) => log,
+        Err(ending) => return ending,
+    };
+    let image = match start_for(alloc, request.image, &log, shelf) {
+        Ok(image) => image,
+        Err(ending) => return ending,
+    };
+    match outcome_of(alloc, log, &image) {
+        Ok(end) => keep_end(alloc, request, &end, shelf),
+        Err(ending) => ending,
+    }
+}
+
+/// Replays the log that is asked for, on one thread.
+pub(crate) fn replay<S: Shelf, C: Console, K: Clock>(
+    alloc: Global,
+    request: &ReplayRequest,
+    shelf: &mut S,
+    console: C,
+    clock: K,
+) -> Ended<C, K>
+    requires writing { (S.seen shelf.old).writing ≡ false }
+    requires log { S.has shelf.old request.now.log.now }
+    requires image { S.has shelf.old request.now.image.now }
+    ensures writing { (S.seen shelf.new).writing ≡ false }
+    ensures replays { ReplaysAs (replay_by request.now) (S.seen shelf.old) (S.seen shelf.new) result.ending }
+    ensures console { result.console ≡ console }
+    ensures clock { result.clock ≡ clock }
+{
+    without_run(replayed(alloc, request, shelf), console, clock)
+}
