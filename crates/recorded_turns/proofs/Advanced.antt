@@ -32,9 +32,10 @@ use Rattle.crew_parts.specs.Turns.{HasTurn}
 use Rattle.crew_parts.specs.Laws.{IsTurnOf}
 use Rattle.crew_parts.proofs.Laws.{moves_are_told}
 use Rattle.recorded_turns.specs.Laws.{OthersStayAdvanced, OthersStayTold, FavouredStayAdvanced, LegsAdvance, RowsAdvance, PartsAreAdvanced, TurnsLeaveParts}
-use Rattle.recorded_turns.proofs.Taking.{first_spent, turn_silent}
+use Rattle.recorded_turns.proofs.Taking.{turn_silent}
 use Rattle.recorded_turns.proofs.Going.{turn_tells}
 use Rattle.recorded_turns.proofs.Loops.{leg_left, terms_stay}
+use Rattle.crew_parts.proofs.Turned.{first_spent, then_spent}
 
 abbrev further : Terms → ℕ → ℕ → Option (Replay FlatState × Option (List Step)) → Option (Replay FlatState)
 further terms h k = option_and_then (λ (z : Replay FlatState × Option (List Step)). runs the_machine terms h k z.0)
@@ -81,14 +82,6 @@ unit_is terms h pages x z s at a b one holders memory size some = by a.unit_is w
   by (inl e) = let w = sym (ap (λ u. length x.frames.pages * u) e) ∙ m in absurd (omega (arith, w, l, some))
   by (inr (inl e)) = let w = sym (ap (λ u. length x.frames.pages * u) e) ∙ m in absurd (omega (arith, w, l, some))
   by (inr (inr e)) = e
-
-pub then_spent : (given : Supply) → followed_by given spent ≡ given
-then_spent given =
-    ap₂ (λ answers times. record { answers = answers; takes = given.takes + 0; times = times }) (append-nil given.answers) (append-nil given.times)
-    ∙ ap (λ k. record { answers = given.answers; takes = k; times = given.times }) (none_more given.takes)
-  where
-    none_more : (n : ℕ) → n + 0 ≡ n
-    none_more n = omega arith
 
 -- what a turn gave is given to a reached board
 reached_given : (p q : Plain) (h : ℕ) (before after : Run) (order : Order) → IsReached p → (is : HasTurn p q h before after order)

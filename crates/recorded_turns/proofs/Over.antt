@@ -23,8 +23,9 @@ use Rattle.crew_parts.specs.Turns.{CountsFaults}
 use Rattle.crew_parts.proofs.Laws.{first_boards}
 use Rattle.recorded_turns.specs.Takes.{Takes}
 use Rattle.recorded_turns.specs.Laws.{OverIsOver, CutIsTaken, ClosesAreTaken, FirstRoundIsTaken, LessIsLeft, LittleIsLeft, left_in}
-use Rattle.recorded_turns.proofs.Taking.{Comes, first_spent, gives_none, sent_none, takes_none, taken_both, takes_both}
+use Rattle.recorded_turns.proofs.Taking.{Comes, gives_none, sent_none, takes_none, taken_both, takes_both}
 use Rattle.recorded_turns.proofs.Loops.{leg_left, takes_by, terms_stay}
+use Rattle.crew_parts.proofs.Turned.{first_spent}
 
 -- the numbers below one more are 0 and the others' successors
 below_more : (n : ℕ) → below (suc n) ≡ 0 ∷ map suc (below n)

@@ -34,7 +34,7 @@ use Rattle.crew_parts.proofs.Laws.{first_boards}
 use Rattle.recorded_turns.specs.Laws.{IsTaken}
 use Rattle.recorded_turns.specs.Recordings.{ByList, InRounds, IsRightBy, Records, board_before, recording}
 use Rattle.recorded_turns.specs.Recordings as laws
-use Rattle.recorded_turns.proofs.Advanced.{then_spent}
+use Rattle.crew_parts.proofs.Turned.{then_spent}
 
 -- without a cause the run ended by the limit
 counts_by : (o : Option Cause) (x y : ℕ) → CountsFaults None o x y → CountsFaults None (Some (unwrap_or o Limit)) x y

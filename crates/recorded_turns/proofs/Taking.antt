@@ -18,11 +18,7 @@ use Rattle.crew_parts.specs.Boards.{Plain, World, the_machine, board_of, spent, 
 use Rattle.crew_parts.specs.Turns.{CountsFaults, Gives, HasTurn, IsSpent, SameTerms, SentIsTaken, Took}
 use Rattle.recorded_turns.specs.Takes.{Takes}
 use Rattle.recorded_turns.specs.Laws.{IsTaken, TakesNone, TakesThen, TakesTurn, TakesFavour}
-
-pub first_spent : (left : Supply) → followed_by spent left ≡ left
-first_spent left = ap (λ k. record { answers = left.answers; takes = k; times = left.times }) (zero_add left.takes) where
-  zero_add : (n : ℕ) → 0 + n ≡ n
-  zero_add n = omega arith
+use Rattle.crew_parts.proofs.Turned.{first_spent}
 
 -- what was given, and then more
 took_then : (k j : ℕ) (xs ys zs : List ℕ) → Took k xs ys → Took j ys zs → Took (k + j) xs zs
@@ -32,7 +28,7 @@ took_then k j xs ys zs one two = (
   two.2 ∙ ap (λ l. l ++ two.0) one.2 ∙ append_assoc xs one.0 two.0,
 )
 
-gives_then : (u v w : World) (a b : Supply) → Gives u v a → Gives v w b → Gives u w (followed_by a b)
+pub gives_then : (u v w : World) (a b : Supply) → Gives u v a → Gives v w b → Gives u w (followed_by a b)
 gives_then u v w a b one two = record {
   tells_answers = λ t. one.tells_answers (two.tells_answers t);
   tells_taken = λ t. one.tells_taken (two.tells_taken t);
