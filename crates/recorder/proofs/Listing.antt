@@ -1,5 +1,5 @@
 -- Turns by a list, one after another.
-use Rattle.std.proofs.Common.{◌≡◌, ◌≢◌, ◌↔◌, ◌⊎◌, inl, inr, ℕ, zero, suc, ◌+◌, ◌*◌, ◌<◌, ◌≤◌, ◌^◌, ◌==◌, ◌++◌, min, Bool, true, false, List, [], ◌∷◌, map, length, take, nat_lt, IfOk, IsTrue, Ok, Err, Result}
+use Rattle.std.proofs.Common.{◌≡◌, ◌≢◌, ◌↔◌, ◌⊎◌, inl, inr, ℕ, zero, suc, ◌+◌, ◌*◌, ◌<◌, ◌≤◌, ◌^◌, ◌==◌, ◌++◌, min, Bool, true, false, List, [], ◌∷◌, map, length, take, nat_lt, IfErr, IfOk, IsErrAnd, IsTrue, MatchResult, Ok, Err, Result}
 use Rattle.std.proofs.Common.{get_or, Option, Some, refl, sym, ap, ap₂, ◌∙◌, subst, arith, if◌then◌else◌}
 use Rattle.std.specs.List.{list_all}
 use Rattle.std.proofs.lemmas.Bool.{and_from, and_parts, lt-ltb, ltb-true}
@@ -26,8 +26,8 @@ use Rattle.recorded_turns.proofs.Over.{closes_are_taken, cut_is_taken}
 use Rattle.recorded_turns.proofs.Recorded.{comes_out}
 use Rattle.recorded_turns.proofs.Taking.{takes_none}
 use Rattle.recorder.specs.Listed.{HasRow, TakesRows, TakesList}
-use Rattle.recorder.specs.Manned.{IsManned, HasTurnOf, leg_in, row_moves, still, without}
-use Rattle.recorder.proofs.Manning.{part_of_still}
+use Rattle.recorder.specs.Manned.{HasGiven, IsManned, HasTurnOf, leg_in, row_moves, still, without}
+use Rattle.recorder.proofs.Manning.{given_none, part_of_still}
 
 manned_as : (p : Plain) (runs : List Run) (orders : List (Option Order)) (f k : ℕ → ℕ) → ((g : ℕ) → f g ≡ k g) → IsManned p runs orders f → IsManned p runs orders k
 manned_as p runs orders f k same is = record {
@@ -183,10 +183,23 @@ list_recorded image harts limit log_limit world after list p q runs orders log e
     (comes_out {Kind = ByList list} image harts limit log_limit world q log ended journal turns
     (limits_of image harts limit log_limit world whole some few most least_log most_log) t.terms t.taken ends)
 
--- two facts of an Ok
-pub both_ok : {X E : Type 0} {P Q R : X → Type 0} (r : Result X E) → ((x : X) → P x → Q x → R x) → IfOk r P → IfOk r Q → IfOk r R
-both_ok (Ok x) f one two = f x one two
-both_ok (Err e) f one two = tt
+-- two facts of an Ok, and one of an Err
+pub matched : {X E : Type 0} {P Q R : X → Type 0} {S T : E → Type 0} (r : Result X E) → ((x : X) → P x → Q x → R x) → ((e : E) → S e → T e)
+    → IfOk r P → IfOk r Q → IfErr r S → MatchResult r R T
+matched (Ok x) f g one two three = f x one two
+matched (Err e) f g one two three = g e three
+
+-- of an Err that is given on
+pub passed_on : {X E : Type 0} {S T : E → Type 0} (R : X → Type 0) (r : Result X E) → ((e : E) → S e → T e) → IsErrAnd r S → MatchResult r R T
+passed_on R (Ok x) g is = absurd is
+passed_on R (Err e) g is = g e is
+
+-- a cut asks for nothing
+pub cut_gives : (p q : Plain) → q ≡ cut_in p → HasGiven p.now q.now
+cut_gives p q is = subst (λ z. HasGiven p.now z.now) (sym is) (by (is_over_in p)) where
+  by : (c : Bool) → HasGiven p.now (let z : Plain = if c then p else record p { closed = Some Cut } in z.now)
+  by true = given_none p.now
+  by false = given_none p.now
 
 -- a test of each row
 all_of : (n : ℕ) (list : List (ℕ × ℕ)) → list_all (λ row. nat_lt row.0 n) list ≡ true → OfHarts n list

@@ -17,6 +17,7 @@ use Rattle.hart_run.specs.Calls.{LegAgrees}
 use Rattle.turn_model.specs.Board as model
 use Rattle.turn_model.specs.Board.{Go, Hold, Rest}
 use Rattle.turn_model.specs.Lists.{leg_by}
+use Rattle.turn_laws.specs.Supplies.{followed_by}
 use Rattle.crew_parts.specs.Boards.{Plain, World, IsBoardOf, the_machine, board_of, plain_at_start, spent, state_of, terms_of, told_to}
 use Rattle.crew_parts.specs.Laws.{IsTurnOf}
 use Rattle.crew_parts.specs.Parts.{AreParts, IsPart, IsPartAdvanced, IsPartMoved, Part, number_of, until_by, until_of}
@@ -25,7 +26,8 @@ use Rattle.crew_parts.proofs.Laws.{parts_are_numbered, parts_have_unit}
 use Rattle.crew_core.specs.declared.order.Order.{Order}
 use Rattle.crew_core.specs.Orders.{told, told_of}
 use Rattle.recorded_turns.proofs.Advanced.{others_stay_advanced, others_stay_told, parts_are_advanced, rows_advance, turns_leave_parts}
-use Rattle.recorder.specs.Manned.{Advances, IsManned, HasTurnOf, leg_in, row_moves, still, without}
+use Rattle.recorded_turns.proofs.Taking.{gives_none, gives_then}
+use Rattle.recorder.specs.Manned.{Advances, HasGiven, IsManned, HasTurnOf, leg_in, row_moves, still, without}
 
 -- room for a turn changes nothing of it
 room_advanced : (p : Plain) (h n : ℕ) (r : Run) → IsPartAdvanced p h n r → IsPartAdvanced (record p { prepared = true }) h n r
@@ -241,3 +243,13 @@ goes_on r after order until most to pause is at kept legs =
 
 pub within_leg : (until most count : ℕ) → count ≤ until → count + min most (until - count) ≡ min until (count + most)
 within_leg until most count l = omega (arith, l)
+
+-- what console and clock gave
+pub given_none : (w : World) → HasGiven w w
+given_none w = (spent, gives_none w)
+
+pub given_then : (u v w : World) → HasGiven u v → HasGiven v w → HasGiven u w
+given_then u v w one two = (followed_by one.0 two.0, gives_then u v w one.0 two.0 one.1 two.1)
+
+pub given_same : (p q : Plain) → q ≡ p → HasGiven p.now q.now
+given_same p q same = subst (λ z. HasGiven p.now z.now) (sym same) (given_none p.now)

@@ -5,11 +5,11 @@ use Rattle.run_model.specs.Legs.{KeepsPages}
 use Rattle.run_model.specs.declared.asked.Pause.{Pause}
 use Rattle.hart_run.specs.Calls.{LegAgrees}
 use Rattle.turn_model.specs.Board as model
-use Rattle.turn_model.specs.Board.{Go}
+use Rattle.turn_model.specs.Board.{Go, Supply}
 use Rattle.turn_model.specs.Lists.{whole_leg}
-use Rattle.crew_parts.specs.Boards.{Plain, the_machine, board_of, spent, terms_of, told_to}
+use Rattle.crew_parts.specs.Boards.{Plain, World, the_machine, board_of, spent, terms_of, told_to}
 use Rattle.crew_parts.specs.Parts.{IsPartAdvanced}
-use Rattle.crew_parts.specs.Turns.{HasTurn}
+use Rattle.crew_parts.specs.Turns.{Gives, HasTurn}
 use Rattle.crew_core.specs.declared.order.Order.{Order}
 use Rattle.crew_core.specs.Orders.{told_of}
 
@@ -18,6 +18,10 @@ abbrev pub Advances : Run → Run → Option model.Order → ℕ → Type 0
 Advances old new (Some (Go until)) most =
     (pause : Pause) × KeepsPages old new × LegAgrees old new (min until (old.count + most)) pause
 Advances old new order most = new ≡ old
+
+-- console and clock gave something between two moments, where they tell it
+abbrev pub HasGiven : World → World → Type 0
+HasGiven old new = (given : Supply) × Gives old new given
 
 -- how many moves a hart can make before its next turn
 abbrev pub leg_in : Plain → ℕ → ℕ

@@ -5,7 +5,7 @@ ghost use Rattle.crew_parts.specs.Boards.{world, plain_at_start, EndsAs};
 ghost use Rattle.crew_parts.specs.Parts.{number_of, until_by, IsPartMoved};
 ghost use Rattle.crew_parts.specs.Turns.{HasTurn};
 ghost use Rattle.crew_core.specs.Orders.{told, told_of};
-ghost use Rattle.recorder.specs.Manned.{Advances, IsManned, HasTurnOf, still, row_moves};
+ghost use Rattle.recorder.specs.Manned.{Advances, HasGiven, IsManned, HasTurnOf, still, row_moves};
 
 use crew_core::{Board, Order, OutOfMemory, Recorded};
 use elf_image::Image;
@@ -36,7 +36,8 @@ fn take_turn<C: Console, K: Clock>(
     run: &mut HartRun,
 ) -> Result<Order, NoMemory>
     requires { IsPartMoved board.old run.old }
-    ensures { IfOk result (λ o. HasTurn board.old board.new (number_of run.old) run.old run.new (told o)) }
+    ensures turn { IfOk result (λ o. HasTurn board.old board.new (number_of run.old) run.old run.new (told o)) }
+    ensures given { HasGiven board.old.now board.new.now }
 {
     board.prepare(alloc)?;
     Ok(board.turn(run))
@@ -102,7 +103,8 @@ impl<C: Console, K: Clock> Recording<C, K> {
     pub fn turn(&mut self, alloc: Global, hart: u8) -> Result<(), NoMemory>
         requires hart { hart < self.old.board.harts }
         requires manned { (moves : ℕ → ℕ) × IsManned self.old.board self.old.runs.items self.old.orders moves }
-        ensures { OnOk result ((moves : ℕ → ℕ)
+        ensures given { HasGiven self.old.board.now self.new.board.now }
+        ensures turn { OnOk result ((moves : ℕ → ℕ)
             → IsManned self.old.board self.old.runs.items self.old.orders moves
             → HasTurnOf self.old.board self.new.board hart moves self.new.runs.items self.new.orders) }
     {
@@ -119,13 +121,16 @@ impl<C: Console, K: Clock> Recording<C, K> {
         requires { IsManned self.board self.runs.items self.orders still }
         ensures ended { IfOk result (λ r. EndsAs self.board r.log r.ended r.journal r.turns) }
         ensures world { IfOk result (λ r. world (C.seen r.console) (K.seen r.clock) ≡ self.board.now) }
+        ensures refused { IfErr result (λ e. world (C.seen e.console) (K.seen e.clock) ≡ self.board.now) }
     {
         let Recording { board, runs, .. } = self;
         board.finish(runs)
     }
 
     /// Console and clock, where memory ran out.
-    pub fn abandon(self) -> OutOfMemory<C, K> {
+    pub fn abandon(self) -> OutOfMemory<C, K>
+        ensures { world (C.seen result.console) (K.seen result.clock) ≡ self.board.now }
+    {
         let Recording {
             mut board,
             runs,

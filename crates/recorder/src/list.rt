@@ -1,12 +1,12 @@
 //! A recording by a list of turns.
 
-ghost use Rattle.std.specs.Prelude.{◌≡◌, ◌↔◌, ◌<◌, ◌≤◌, nat_lt, map, IfOk, IsTrue, OnOk};
+ghost use Rattle.std.specs.Prelude.{◌≡◌, ◌↔◌, ◌<◌, ◌≤◌, nat_lt, map, IsTrue, MatchResult, OnOk};
 ghost use Rattle.std.specs.List.{list_all};
 ghost use Rattle.orders_law.specs.Orders.{below};
 ghost use Rattle.turn_model.specs.Laws.{OfHarts};
 ghost use Rattle.crew_parts.specs.Boards.{world, plain_at_start};
 ghost use Rattle.recorded_turns.specs.Recordings.{RecordsByList};
-ghost use Rattle.recorder.specs.Manned.{IsManned, still};
+ghost use Rattle.recorder.specs.Manned.{HasGiven, IsManned, still};
 ghost use Rattle.recorder.specs.Listed.{HasRow, TakesRows, TakesList};
 
 use crate::crewed::Recording;
@@ -22,7 +22,8 @@ impl<C: Console, K: Clock> Recording<C, K> {
     fn row(&mut self, alloc: Global, hart: u8, most: u32) -> Result<(), NoMemory>
         requires hart { hart < self.old.board.harts }
         requires manned { IsManned self.old.board self.old.runs.items self.old.orders still }
-        ensures { OnOk result
+        ensures given { HasGiven self.old.board.now self.new.board.now }
+        ensures taken { OnOk result
             (HasRow self.old.board self.new.board hart most self.new.runs.items self.new.orders) }
     {
         self.advance(hart, most);
@@ -34,7 +35,8 @@ impl<C: Console, K: Clock> Recording<C, K> {
     fn rows(&mut self, alloc: Global, list: &[(u8, u32)]) -> Result<(), NoMemory>
         requires list { OfHarts self.old.board.harts list.now }
         requires manned { IsManned self.old.board self.old.runs.items self.old.orders still }
-        ensures { OnOk result
+        ensures given { HasGiven self.old.board.now self.new.board.now }
+        ensures taken { OnOk result
             (TakesRows list.now self.old.board self.new.board self.new.runs.items self.new.orders) }
     {
         for &(hart, most) in list {
@@ -46,7 +48,8 @@ impl<C: Console, K: Clock> Recording<C, K> {
     /// A turn without moves of each hart.
     fn rests(&mut self, alloc: Global) -> Result<(), NoMemory>
         requires { IsManned self.old.board self.old.runs.items self.old.orders still }
-        ensures { OnOk result (TakesRows (map (λ h. (h, 0)) (below self.old.board.harts))
+        ensures given { HasGiven self.old.board.now self.new.board.now }
+        ensures taken { OnOk result (TakesRows (map (λ h. (h, 0)) (below self.old.board.harts))
             self.old.board self.new.board self.new.runs.items self.new.orders) }
     {
         let harts = self.board.harts();
@@ -60,7 +63,8 @@ impl<C: Console, K: Clock> Recording<C, K> {
     fn list(&mut self, alloc: Global, list: &[(u8, u32)]) -> Result<(), NoMemory>
         requires list { OfHarts self.old.board.harts list.now }
         requires manned { IsManned self.old.board self.old.runs.items self.old.orders still }
-        ensures { OnOk result
+        ensures given { HasGiven self.old.board.now self.new.board.now }
+        ensures taken { OnOk result
             (TakesList list.now self.old.board self.new.board self.new.runs.items self.new.orders) }
     {
         self.rows(alloc, list)?;
@@ -86,7 +90,8 @@ pub fn has_harts(harts: u8, list: &[(u8, u32)]) -> bool
 }
 
 /// Records a board by a list of turns: for each hart and number in the list a turn of the hart, with so many moves of
-/// its leg at most. Behind the list the board is cut, unless it is over, and each hart has a turn without moves.
+/// its leg at most. Behind the list the board is cut, unless it is over, and each hart has a turn without moves. Where
+/// memory ran out, console and clock come back with what they gave.
 pub fn record_list<C: Console, K: Clock>(
     alloc: Global,
     image: &Image,
@@ -103,9 +108,11 @@ pub fn record_list<C: Console, K: Clock>(
     requires log_least { 1024 ≤ log_limit }
     requires log_most { log_limit ≤ 536870912 }
     requires list { OfHarts harts list.now }
-    ensures { IfOk result (λ r. RecordsByList list.now
+    ensures { MatchResult result
+        (λ r. RecordsByList list.now
         (plain_at_start image.now harts limit log_limit (world (C.seen console) (K.seen clock)))
-        (world (C.seen r.console) (K.seen r.clock)) r.log r.ended r.journal r.turns) }
+        (world (C.seen r.console) (K.seen r.clock)) r.log r.ended r.journal r.turns)
+        (λ e. HasGiven (world (C.seen console) (K.seen clock)) (world (C.seen e.console) (K.seen e.clock))) }
 {
     let _ = image.pages();
     let mut recording = Recording::start(alloc, image, harts, limit, log_limit, console, clock)?;

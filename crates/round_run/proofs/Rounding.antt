@@ -33,6 +33,7 @@ use Rattle.round_run.specs.Legs.{HaveStood, IsReady, ready_moves}
 use Rattle.round_run.specs.Sweeps.{TakesRound}
 use Rattle.round_run.specs.Rounds.{LastTurn, LastTurnsTo, RoundsEnd, TakesAll, TakesLast, TakesRounds, last_moves, rounds_in, start_of}
 use Rattle.round_run.proofs.Sweeping.{manned_as}
+use Rattle.crew_recording.proofs.Steady.{no_place}
 
 -- before any turn no hart was told to go on
 none_told : (p : Plain) (h : ℕ) → p ≡ start_of p → h < p.harts → leg_in p h ≡ 0
@@ -276,13 +277,8 @@ all_taken p m q runs_m runs orders_m orders stood holds ends last = record {
       (subst (λ t. Takes t (last_turns the_machine t (below m.harts)) m q) same last.takes)
 
 -- no hart has moved before any turn
-zeros : (n h : ℕ) → slice_index (replicate n 0) h ≡ 0
-zeros zero h = refl
-zeros (suc n) zero = refl
-zeros (suc n) (suc h) = zeros n h
-
 pub none_stood : (p : Plain) (n : ℕ) → p ≡ start_of p → HaveStood p (replicate n 0)
-none_stood p n start h less = zeros n h ∙ sym (zeros p.harts h) ∙ ap (λ (z : Plain). slice_index z.counts h) (sym start)
+none_stood p n start h less = no_place n h ∙ sym (no_place p.harts h) ∙ ap (λ (z : Plain). slice_index z.counts h) (sym start)
 
 -- a board before any turn
 pub is_start : (p : Plain) (image : Image) (number limit log_limit : ℕ) (world : World) → p ≡ plain_at_start image number limit log_limit world → p ≡ start_of p

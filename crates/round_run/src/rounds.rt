@@ -1,9 +1,9 @@
 //! Rounds: three sweeps of turns, and the legs of all harts at once.
 
-ghost use Rattle.std.specs.Prelude.{ℕ, ◌≡◌, ◌<◌, ◌≤◌, ◌^◌, Bool, true, slice_index, IfOk, OnOk};
+ghost use Rattle.std.specs.Prelude.{ℕ, ◌≡◌, ◌<◌, ◌≤◌, ◌^◌, Bool, true, slice_index, MatchResult, OnOk};
 ghost use Rattle.crew_parts.specs.Boards.{world, plain_at_start, IsBoardOf};
 ghost use Rattle.recorded_turns.specs.Recordings.{RecordsInRounds};
-ghost use Rattle.recorder.specs.Manned.{HasTurnOf, IsManned, still};
+ghost use Rattle.recorder.specs.Manned.{HasGiven, HasTurnOf, IsManned, still};
 ghost use Rattle.round_run.specs.Legs.{HaveStood, IsReady};
 ghost use Rattle.round_run.specs.Sweeps.{TakesRound, TakesSweep};
 ghost use Rattle.round_run.specs.Rounds.{LastTurn, RoundsEnd, TakesAll, TakesLast, last_moves, start_of};
@@ -30,6 +30,7 @@ fn favoured_turn<C: Console, K: Clock>(
     requires manned { (moves : ℕ → ℕ)
         × IsManned recording.old.board recording.old.runs.items recording.old.orders moves }
     ensures holds { IsBoardOf recording.old.board }
+    ensures given { HasGiven recording.old.board.now recording.new.board.now }
     ensures turn { OnOk result ((moves : ℕ → ℕ)
         → IsManned recording.old.board recording.old.runs.items recording.old.orders moves
         → HasTurnOf (record recording.old.board { favoured = favoured }) recording.new.board hart moves
@@ -50,7 +51,8 @@ fn sweep<C: Console, K: Clock>(
     requires round { round < 2 ^ 63 }
     requires ready { (moved : Bool)
         × IsReady recording.old.board recording.old.runs.items recording.old.orders moved }
-    ensures { OnOk result ((moved : Bool)
+    ensures given { HasGiven recording.old.board.now recording.new.board.now }
+    ensures taken { OnOk result ((moved : Bool)
         → IsReady recording.old.board recording.old.runs.items recording.old.orders moved
         → TakesSweep round moved recording.old.board recording.new.board
         recording.new.runs.items recording.new.orders) }
@@ -72,7 +74,8 @@ fn round<C: Console, K: Clock>(
 ) -> Result<(), NoMemory>
     requires number { number < 2 ^ 63 }
     requires ready { IsReady recording.old.board recording.old.runs.items recording.old.orders true }
-    ensures { OnOk result
+    ensures given { HasGiven recording.old.board.now recording.new.board.now }
+    ensures taken { OnOk result
         (TakesRound number recording.old.board recording.new.board recording.new.runs.items recording.new.orders) }
 {
     let _ = recording.board.harts();
@@ -121,10 +124,12 @@ impl<C: Console, K: Clock> Rounds<C, K> {
         gate: &G,
     ) -> Result<(), NoMemory>
         requires start { self.old.recording.board ≡ start_of self.old.recording.board }
-        requires manned { IsManned self.old.recording.board self.old.recording.runs.items self.old.recording.orders still }
+        requires manned { IsManned self.old.recording.board
+            self.old.recording.runs.items self.old.recording.orders still }
         requires limit { self.old.recording.board.limit ≤ 1000000000000 }
         requires stood { HaveStood self.old.recording.board self.old.stood }
-        ensures { OnOk result (RoundsEnd self.old.recording.board self.new.recording.board
+        ensures given { HasGiven self.old.recording.board.now self.new.recording.board.now }
+        ensures taken { OnOk result (RoundsEnd self.old.recording.board self.new.recording.board
             self.new.recording.runs.items self.new.recording.orders self.new.stood) }
     {
         let _ = self.recording.board.harts();
@@ -143,6 +148,7 @@ impl<C: Console, K: Clock> Rounds<C, K> {
         requires manned { IsManned self.old.recording.board self.old.recording.runs.items self.old.recording.orders
             (last_moves hart self.old.recording.board) }
         requires stood { slice_index self.old.stood hart ≡ slice_index self.old.recording.board.counts hart }
+        ensures given { HasGiven self.old.recording.board.now self.new.recording.board.now }
         ensures turn { OnOk result (LastTurn self.old.recording.board self.new.recording.board hart
             (last_moves hart self.old.recording.board) self.new.recording.runs.items self.new.recording.orders) }
         ensures stood { self.new.stood ≡ self.old.stood }
@@ -160,7 +166,8 @@ impl<C: Console, K: Clock> Rounds<C, K> {
     fn last_turns(&mut self, alloc: Global) -> Result<(), NoMemory>
         requires ready { IsReady self.old.recording.board self.old.recording.runs.items self.old.recording.orders true }
         requires stood { HaveStood self.old.recording.board self.old.stood }
-        ensures { OnOk result (TakesLast self.old.recording.board self.new.recording.board
+        ensures given { HasGiven self.old.recording.board.now self.new.recording.board.now }
+        ensures taken { OnOk result (TakesLast self.old.recording.board self.new.recording.board
             self.new.recording.runs.items self.new.recording.orders) }
     {
         let harts = self.recording.board.harts();
@@ -179,9 +186,11 @@ impl<C: Console, K: Clock> Rounds<C, K> {
     ) -> Result<(), NoMemory>
         requires start { self.old.recording.board ≡ start_of self.old.recording.board }
         requires limit { self.old.recording.board.limit ≤ 1000000000000 }
-        requires manned { IsManned self.old.recording.board self.old.recording.runs.items self.old.recording.orders still }
+        requires manned { IsManned self.old.recording.board
+            self.old.recording.runs.items self.old.recording.orders still }
         requires stood { HaveStood self.old.recording.board self.old.stood }
-        ensures { OnOk result (TakesAll self.old.recording.board self.new.recording.board
+        ensures given { HasGiven self.old.recording.board.now self.new.recording.board.now }
+        ensures taken { OnOk result (TakesAll self.old.recording.board self.new.recording.board
             self.new.recording.runs.items self.new.recording.orders) }
     {
         self.rounds(rt, alloc, gate)?;
@@ -193,7 +202,8 @@ impl<C: Console, K: Clock> Rounds<C, K> {
 
 /// Records a board in rounds, until it is over. In a round each hart has three turns; then all that were told to go on
 /// do so, beside each other on threads where they can be had, each between two passes of the gate. Behind the last
-/// round each hart that has moved since its latest turn has one.
+/// round each hart that has moved since its latest turn has one. Where memory ran out, console and clock come back with
+/// what they gave.
 pub fn record_rounds<T: Threads + Sync, C: Console, K: Clock, G: Gate>(
     rt: &T,
     alloc: Global,
@@ -210,9 +220,11 @@ pub fn record_rounds<T: Threads + Sync, C: Console, K: Clock, G: Gate>(
     requires limit { limit ≤ 1000000000000 }
     requires log_least { 1024 ≤ log_limit }
     requires log_most { log_limit ≤ 536870912 }
-    ensures { IfOk result (λ r. RecordsInRounds
+    ensures { MatchResult result
+        (λ r. RecordsInRounds
         (plain_at_start image.now harts limit log_limit (world (C.seen console) (K.seen clock)))
-        (world (C.seen r.console) (K.seen r.clock)) r.log r.ended r.journal r.turns) }
+        (world (C.seen r.console) (K.seen r.clock)) r.log r.ended r.journal r.turns)
+        (λ e. HasGiven (world (C.seen console) (K.seen clock)) (world (C.seen e.console) (K.seen e.clock))) }
 {
     let _ = image.pages();
     let recording = Recording::start(alloc, image, harts, limit, log_limit, console, clock)?;

@@ -1,13 +1,34 @@
-use Rattle.crew_parts.specs.Boards.{world}
-use Rattle.recorder.proofs.Listing.{both_ok}
+use Rattle.std.proofs.Common.{subst, sym, ap₂}
+use Rattle.crew_parts.specs.Boards.{Plain, world}
+use Rattle.recorder.specs.Manned.{HasGiven}
+use Rattle.recorder.proofs.Listing.{matched, passed_on}
+use Rattle.recorder.proofs.Manning.{given_none}
 use Rattle.round_run.proofs.Rounding.{rounds_recorded}
 use Rattle.round_run.proofs.rounds.record_rounds.Goals as goal
 
+pub returns-in_err-recording : goal.returns-in_err-recording
+returns-in_err-recording g c =
+    let before = world (g.C.Console.seen c.args.console) (g.K.Clock.seen c.args.clock) in
+    let e = c.in_err-recording.ensures in
+    passed_on _ c.from_residual.result (λ y same. subst (λ z. HasGiven before (world (g.C.Console.seen z.console) (g.K.Clock.seen z.clock))) (sym same)
+    (subst (HasGiven before) (sym (ap₂ (λ x y. world (g.C.Console.seen x) (g.K.Clock.seen y)) e.console e.clock)) (given_none before)))
+    c.from_residual.ensures.1
+
 pub returns-in-Ok : goal.returns-in-Ok
 returns-in-Ok g c =
-    both_ok c.finish.result (λ r ends now.
-    rounds_recorded c.args.image.now c.args.harts c.args.limit c.args.log_limit
-    (world (g.C.Console.seen c.args.console) (g.K.Clock.seen c.args.clock)) (world (g.C.Console.seen r.console) (g.K.Clock.seen r.clock))
-    c.in_ok-recording.recording.board c.all.new.self.recording.board c.all.new.self.recording.runs.items c.all.new.self.recording.orders r.log
-    r.ended r.journal r.turns c.pages.ensures.whole c.requires.least c.requires.most c.requires.limit c.requires.log_least c.requires.log_most
-    c.in_ok-recording.ensures.board c.in-Ok.ensures ends now) c.finish.ensures.ended c.finish.ensures.world
+    let before = world (g.C.Console.seen c.args.console) (g.K.Clock.seen c.args.clock) in
+    let q = c.all.new.self.recording in
+    matched c.finish.result (λ r ends now.
+    rounds_recorded c.args.image.now c.args.harts c.args.limit c.args.log_limit before (world (g.C.Console.seen r.console) (g.K.Clock.seen r.clock))
+    c.in_ok-recording.recording.board q.board q.runs.items q.orders r.log r.ended r.journal r.turns c.pages.ensures.whole c.requires.least
+    c.requires.most c.requires.limit c.requires.log_least c.requires.log_most c.in_ok-recording.ensures.board c.in-Ok.ensures.taken ends now)
+    (λ e now. subst (HasGiven before) (sym now)
+    (subst (λ (z : Plain). HasGiven z.now q.board.now) c.in_ok-recording.ensures.board c.all.ensures.given)) c.finish.ensures.ended
+    c.finish.ensures.world c.finish.ensures.refused
+
+pub returns-in-Err : goal.returns-in-Err
+returns-in-Err g c =
+    let before = world (g.C.Console.seen c.args.console) (g.K.Clock.seen c.args.clock) in
+    let q = c.all.new.self.recording in
+    subst (HasGiven before) (sym c.abandon.ensures)
+    (subst (λ (z : Plain). HasGiven z.now q.board.now) c.in_ok-recording.ensures.board c.all.ensures.given)

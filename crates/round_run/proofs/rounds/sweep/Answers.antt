@@ -1,4 +1,5 @@
 use Rattle.std.proofs.Common.{◌≡◌, ◌+◌, ◌%◌, ◌<◌, ap, ap₂, ◌∙◌, arith, subst}
+use Rattle.recorder.proofs.Manning.{given_then}
 use Rattle.round_run.specs.Sweeps.{SweepsTo, harts_by, moves_to_come}
 use Rattle.round_run.proofs.Sweeping.{mod_inside, sweep_begins, sweep_ends, sweep_step}
 use Rattle.round_run.proofs.rounds.sweep.Goals as goal
@@ -39,11 +40,20 @@ loop-place-preserved g c = λ moved is.
     (ap₂ (λ i n. (c.args.round + i) % n) c.from-in-loop-place.ensures (c.from-in-loop-place-2.ensures ∙ number))
     (c.in_ok-favoured_turn.ensures.turn (moves_to_come (harts_by p.harts c.args.round c.loop-place.place) moved m.board) so.manned)
 
-pub returns : goal.returns
-returns g c = λ moved is.
+pub returns-clause-taken : goal.returns-clause-taken
+returns-clause-taken g c = λ moved is.
     let p = c.args.recording.now.board in
     let q = c.loop-place.recording in
     let end : c.loop-place.place ≡ p.harts =
     (let l = c.loop-place-test.false in let n = c.harts-harts.ensures.number in let k = c.loop-place.auto.place-end in omega (arith, l, n, k)) in
     sweep_ends c.args.round moved p q.board q.runs.items q.orders
     (subst (λ i. SweepsTo c.args.round moved (harts_by p.harts c.args.round i) p q.board q.runs.items q.orders) end (c.loop-place.invariant moved is))
+
+pub returns-in_err-favoured_turn-clause-given : goal.returns-in_err-favoured_turn-clause-given
+returns-in_err-favoured_turn-clause-given g c =
+    let takes = (c.loop-place.invariant c.requires.ready.0 c.requires.ready.1).takes in
+    given_then c.args.recording.now.board.now c.loop-place.recording.board.now c.favoured_turn.new.recording.board.now (takes.given, takes.gives)
+    c.favoured_turn.ensures.given
+
+pub returns-clause-given : goal.returns-clause-given
+returns-clause-given g c = let takes = (c.loop-place.invariant c.requires.ready.0 c.requires.ready.1).takes in (takes.given, takes.gives)

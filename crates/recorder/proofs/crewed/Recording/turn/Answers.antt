@@ -14,8 +14,8 @@ take_turn-requires-after_bounds g c κs within =
     (moved_of s.board c.args.hart (moves c.args.hart) r c.harts.ensures.holds (is.each c.args.hart r
     (run_there s.board s.runs.items s.orders moves c.args.hart c.from-place.result r is c.requires.hart c.from-place.ensures c.index_mut.ensures.value))).0
 
-pub returns : goal.returns
-returns g c = λ moves is.
+pub returns-clause-turn : goal.returns-clause-turn
+returns-clause-turn g c = λ moves is.
     let s = c.args.self.now in
     let r = c.index_mut.result.now in
     let there =
@@ -25,4 +25,4 @@ returns g c = λ moves is.
     (slice_set s.orders k (Some c.in_ok-order.order))) (sym c.from-place.ensures)
     (manned_turn s.board c.take_turn.new.board s.runs.items s.orders moves c.args.hart r c.take_turn.new.run c.in_ok-order.order c.harts.ensures.holds
     c.harts-2.ensures.holds c.requires.hart there is
-    (subst (λ k. HasTurn s.board c.take_turn.new.board k r c.take_turn.new.run (told c.in_ok-order.order)) number c.in_ok-order.ensures))
+    (subst (λ k. HasTurn s.board c.take_turn.new.board k r c.take_turn.new.run (told c.in_ok-order.order)) number c.in_ok-order.ensures.turn))
