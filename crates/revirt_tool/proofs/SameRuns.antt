@@ -13,12 +13,12 @@ use Rattle.turn_model.specs.Rounds.{IsRecordedInRounds}
 use Rattle.turn_laws.proofs.GoingOn.{recorded_one}
 use Rattle.crew_parts.specs.Boards.{World, the_machine, spent, terms_of}
 use Rattle.recorded_turns.specs.Recordings.{RecordsInRounds, recording, board_before}
-use Rattle.recorded_turns.proofs.Advanced.{then_spent}
 use Rattle.report_view.specs.Report.{report}
 use Rattle.revirt_tool.specs.Tasks.{Wish}
 use Rattle.revirt_tool.specs.Recordings.{begun}
 use Rattle.revirt_tool.specs.Promise.{KeepsRecording}
 use Rattle.revirt_tool.specs.Complete.{SameAreKept}
+use Rattle.crew_parts.proofs.Turned.{then_spent}
 
 -- what the definitions make of what was given
 abbrev Made : Wish → World → List ℕ → Supply → Recorded FlatState → Type 0

@@ -1,5 +1,5 @@
 -- The text and the status with which a command ends (docs/command-line.md).
-use Rattle.std.specs.Prelude.{ℕ, ◌≡◌, ◌≢◌, ◌⊎◌, Bool, true, false, List, [], codes, if◌then◌else◌}
+use Rattle.std.specs.Prelude.{ℕ, ◌≡◌, ◌≢◌, ◌⊎◌, Bool, true, false, List, [], Result, Ok, Err, codes, if◌then◌else◌}
 use Rattle.outside.specs.Causes.{Rose}
 use Rattle.outside.specs.Seen.{SeenSink, Writes, WritesPart}
 use Rattle.revirt_tool.specs.Lines.{usage_line, too_long_line, image_line, malformed_line, other_line, disorderly_line, diverged_line, no_memory_line}
@@ -65,6 +65,11 @@ pub record FailsToPrint (text : List ℕ) (s t : SeenSink) : Type 0 where
 -- the text was printed and the status is the one, or it wasn't and the status is the other
 abbrev pub PrintsOrFails : List ℕ → ℕ → ℕ → SeenSink → SeenSink → ℕ → Type 0
 PrintsOrFails text printed unprinted s t status = (Prints text s t × (status ≡ printed)) ⊎ (FailsToPrint text s t × (status ≡ unprinted))
+
+-- a line was printed with its status, or there was no memory for it
+abbrev pub PrintsLine : {X E : Type 0} → (X → List ℕ) → Result X E → ℕ → SeenSink → SeenSink → ℕ → Type 0
+PrintsLine bytes (Ok line) printed s t status = PrintsOrFails (bytes line) printed printed s t status
+PrintsLine bytes (Err error) printed s t status = PrintsOrFails no_memory_line 3 3 s t status
 
 -- an ending's text was printed, or there was no memory for its line
 abbrev pub Closes : Ending → SeenSink → SeenSink → ℕ → Type 0

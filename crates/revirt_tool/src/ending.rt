@@ -2,7 +2,7 @@
 
 ghost use Rattle.std.specs.Prelude.{◌≡◌, List, ℕ, IfOk, string_bytes};
 ghost use Rattle.revirt_tool.specs.Lines.{too_long_line, disorderly_line, other_line};
-ghost use Rattle.revirt_tool.specs.Closing.{PrintsOrFails, Closes};
+ghost use Rattle.revirt_tool.specs.Closing.{PrintsOrFails, PrintsLine, Closes};
 
 use outside::{Clock, Console, Sink};
 use std::alloc::{AllocError, Global};
@@ -104,42 +104,42 @@ fn too_long(file: File) -> &'static [u8]
     }
 }
 
+/// Prints a line, and gives its status; where there was no memory for the line, says so.
+fn print_line<R: Sink>(line: Result<String, AllocError>, status: u8, report: &mut R) -> u8
+    ensures { PrintsLine (λ s. string_bytes s) line status (R.seen report.old) (R.seen report.new) result }
+{
+    match line {
+        Ok(line) => print(line.as_bytes(), status, status, report),
+        Err(_) => print(b"no memory\n", 3, 3, report),
+    }
+}
+
 /// Prints the text of an ending, and gives its status.
 pub(crate) fn close<R: Sink>(alloc: Global, ending: Ending, report: &mut R) -> u8
     ensures { Closes ending (R.seen report.old) (R.seen report.new) result }
 {
     match ending {
-        Ending::Usage { place } => match format!(in alloc; "usage: word {place}\n") {
-            Ok(line) => print(line.as_bytes(), 1, 1, report),
-            Err(_) => print(b"no memory\n", 3, 3, report),
-        },
+        Ending::Usage { place } => {
+            print_line(format!(in alloc; "usage: word {place}\n"), 1, report)
+        }
         Ending::NotBuilt => print(b"not built\n", 12, 12, report),
         Ending::TooLong { file } => print(too_long(file), 9, 9, report),
-        Ending::ImageRefused { rule } => match format!(in alloc; "image refused: I{rule}\n") {
-            Ok(line) => print(line.as_bytes(), 2, 2, report),
-            Err(_) => print(b"no memory\n", 3, 3, report),
-        },
-        Ending::Malformed { offset, rule } => {
-            match format!(in alloc; "malformed: offset {offset} rule M{rule}\n") {
-                Ok(line) => print(line.as_bytes(), 6, 6, report),
-                Err(_) => print(b"no memory\n", 3, 3, report),
-            }
+        Ending::ImageRefused { rule } => {
+            print_line(format!(in alloc; "image refused: I{rule}\n"), 2, report)
         }
-        Ending::OtherImage { log, image } => match other_line(alloc, &log, &image) {
-            Ok(line) => print(line.as_bytes(), 10, 10, report),
-            Err(_) => print(b"no memory\n", 3, 3, report),
-        },
-        Ending::Disorderly { rule, hart, entry } => match disorderly_line(
-            alloc, rule, hart, entry,
-        ) {
-            Ok(line) => print(line.as_bytes(), 7, 7, report),
-            Err(_) => print(b"no memory\n", 3, 3, report),
-        },
+        Ending::Malformed { offset, rule } => {
+            let line = format!(in alloc; "malformed: offset {offset} rule M{rule}\n");
+            print_line(line, 6, report)
+        }
+        Ending::OtherImage { log, image } => {
+            print_line(other_line(alloc, &log, &image), 10, report)
+        }
+        Ending::Disorderly { rule, hart, entry } => {
+            print_line(disorderly_line(alloc, rule, hart, entry), 7, report)
+        }
         Ending::Diverged { hart, count, rule } => {
-            match format!(in alloc; "diverged: hart {hart} count {count} rule V{rule}\n") {
-                Ok(line) => print(line.as_bytes(), 8, 8, report),
-                Err(_) => print(b"no memory\n", 3, 3, report),
-            }
+            let line = format!(in alloc; "diverged: hart {hart} count {count} rule V{rule}\n");
+            print_line(line, 8, report)
         }
         Ending::NoMemory => print(b"no memory\n", 3, 3, report),
         Ending::ShelfFault => print(b"shelf fault\n", 4, 4, report),

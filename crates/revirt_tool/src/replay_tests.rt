@@ -1,6 +1,6 @@
 //! Replays by the top call.
 
-use crate::listing_tests::{race_log, twice_numbered_log as unnamed_log};
+use crate::listing_tests::{race_log, twice_numbered_log};
 use crate::tests::{
     Row, bytes_of, devices, failing_ends, first_of, full_row, has_lines, input_row, limits,
     race_guest, round, serve, smallest, smallest_log, smallest_report, words_of,
@@ -265,21 +265,17 @@ fn other_guest() -> &'static str {
 17a97c41314803be89615f432beb277811b21c76f3ca0192110b833fd9fe9192\n"
 }
 
-/// Of the smallest guest on one page, two harts whose first gains of a page have one number.
-fn twice_numbered_log() -> &'static [u8] {
-    &[
-        82, 86, 84, 76, 1, 2, 1, 0, 0, 0, 0, 0, 0, 0, 0, 0, // the board
-        0xe4, 0xd0, 0x10, 0x19, 0x49, 0x99, 0xe7, 0x2f, 0xa6, 0x50, 0x95, 0x5c, 0xac, 0xa4, 0x37,
-        0xd5, 0xa7, 0xfe, 0x14, 0xed, 0x0a, 0xd1, 0x12, 0x12, 0xd4, 0x1e, 0xc4, 0xc7, 0x64, 0x32,
-        0xf8, 0x05, // start digest
-        2, 0, 0, 0, // hart 0
-        1, 0, 0, 0, 0, 0, 0, 0, 0, 0, 0, 0, 0, 0, 0, 1, 0, // Gain
-        5, 0, 0, 0, 0, 0, 0, 0, 0, // End
-        2, 0, 0, 0, // hart 1
-        1, 0, 0, 0, 0, 0, 0, 0, 0, 0, 0, 0, 0, 0, 0, 1, 0, // Gain
-        5, 0, 0, 0, 0, 0, 0, 0, 0, // End
-        2, // cause
-    ]
+/// A log with the start digest of the smallest guest on one page.
+fn named(alloc: Global, log: &[u8]) -> Result<Vec<u8>, Fail> {
+    let own = smallest_log();
+    let mut bytes = Vec::from_slice(alloc, first_of(log, 16))?;
+    if let Some(digest) = own.get(16..48) {
+        bytes.extend_from_slice(digest)?;
+    }
+    if let Some(rest) = log.get(48..) {
+        bytes.extend_from_slice(rest)?;
+    }
+    Ok(bytes)
 }
 
 /// Of the smallest guest on two pages, two harts that wait for each other.
@@ -307,7 +303,8 @@ fn logs_of_other_guests_and_of_two_harts_are_refused(rt: HostRuntime) -> Result<
     let smallest_bytes = smallest_log();
     assert!(rt; is_refused(&rt, alloc, round(), &smallest_bytes, 10, other_guest())?);
     let numbers = "disorderly: rule O5 hart 1 entry 0\n";
-    assert!(rt; is_refused(&rt, alloc, smallest(), twice_numbered_log(), 7, numbers)?);
+    let log = named(alloc, twice_numbered_log())?;
+    assert!(rt; is_refused(&rt, alloc, smallest(), log.as_slice(), 7, numbers)?);
     let crossed = "disorderly: rule O9 hart 0 entry 0\n";
     assert!(rt; is_refused(&rt, alloc, smallest(), crossed_log(), 7, crossed)?);
     Ok(())
@@ -341,10 +338,19 @@ fn the_first_refusal_is_told(rt: HostRuntime) -> Result<(), Fail> {
     let large = vec![in alloc; 0u32; 1025]?;
     // an image that breaks a rule, before the order of the log; and another start, before its order
     let rule = "image refused: I2\n";
-    assert!(rt; is_refused(&rt, alloc, large.as_slice(), unnamed_log(), 2, rule)?);
+    assert!(rt; is_refused(&rt, alloc, large.as_slice(), twice_numbered_log(), 2, rule)?);
     let cut = "image refused: I1\n";
     assert!(rt; is_refused(&rt, alloc, cut_file(), &smallest_log(), 2, cut)?);
-    assert!(rt; is_refused(&rt, alloc, smallest(), unnamed_log(), 10, unnamed_start())?);
+    assert!(rt;
+        is_refused(
+            &rt,
+            alloc,
+            smallest(),
+            twice_numbered_log(),
+            10,
+            unnamed_start()
+        )?
+    );
     Ok(())
 }
 
