@@ -2,6 +2,8 @@
 //! another log or text than they say (bench/README.md has the form of a case).
 #![tactic(auto)]
 
+ghost use Rattle.std.specs.Prelude.{◌≡◌, ◌↔◌, IsTrue, string_bytes};
+
 mod case;
 mod telling;
 
@@ -11,13 +13,27 @@ use std::alloc::Global;
 use std::io;
 use std::rt::Runtime;
 use std::thread::Threads;
-use telling::tell;
+use telling::{Told, tell};
 
 /// How many cases came to what they say, and how many didn't.
 #[derive(Drop)]
 struct Tally {
     agree: u64,
     differ: u64,
+}
+
+/// Whether the log is the one that is wanted.
+fn has_log(came: &Told, case: &Case) -> bool
+    ensures { IsTrue result ↔ (came.now.log.items ≡ case.now.log.items) }
+{
+    came.log.as_slice() == case.log.as_slice()
+}
+
+/// Whether the text is the one that is wanted.
+fn has_text(came: &Told, case: &Case) -> bool
+    ensures { IsTrue result ↔ (string_bytes came.now.text ≡ string_bytes case.now.text) }
+{
+    came.text.as_str() == case.text.as_str()
 }
 
 /// Runs a case, and prints a line where it differs.
@@ -28,10 +44,10 @@ fn judge<R: Runtime<A = Global> + Threads + Sync>(
 ) -> Result<()> {
     let came = tell(rt, rt.alloc(), case)?;
     let name = case.name.as_str();
-    if came.log.as_slice() != case.log.as_slice() {
+    if !has_log(&came, case) {
         tally.differ = tally.differ.saturating_add(1);
         println!(rt; "case {name}: another log")?;
-    } else if came.text.as_str() != case.text.as_str() {
+    } else if !has_text(&came, case) {
         tally.differ = tally.differ.saturating_add(1);
         println!(rt; "case {name}: another text")?;
     } else {

@@ -45,10 +45,11 @@ fn put_bytes(out: &mut String, bytes: &[u8]) -> Result<()> {
     Ok(())
 }
 
-/// Rows as `NAME (HART, NUMBER), ..`.
+/// Rows as `NAME (HART, NUMBER), ..`, with a blank behind the name where there are none, too.
 fn put_rows<N: Copy + Display>(out: &mut String, name: &str, rows: &[(u8, N)]) -> Result<()> {
     out.push_str(name)?;
-    let mut between = " ";
+    out.push_str(" ")?;
+    let mut between = "";
     for (hart, number) in rows {
         write!(out, "{between}({hart}, {number})")?;
         between = ", ";
