@@ -4,6 +4,8 @@
 mod crewed;
 mod list;
 #[cfg(test)]
+mod rows;
+#[cfg(test)]
 mod tests;
 
 pub use crewed::{PLACES, Recording};

@@ -1,287 +1,10 @@
 //! Recordings by lists, worked out by hand. Words were encoded by an assembler of RISC-V.
 
-use crate::{has_harts, record_list};
-use crew_core::Recorded;
-use elf_image::{Image, read_image};
-use flat_machine::Final;
-use log_entry::{Entry, Log, Waits};
-use log_format::{in_range, write_log};
-use outside::{Asked, MemClock, MemConsole};
-use rv_words::{Cause, Input, Mode};
+use crate::rows::{Row, holds, plain_row, recorded};
+use outside::Asked;
+use rv_words::Cause;
 use std::alloc::Global;
 use std::process::Abort;
-
-/// A board and its list, and what the recording comes to.
-#[derive(Clone, Copy)]
-struct Row<'a> {
-    words: &'a [u32],
-    /// Words behind zeros, from a place on.
-    behind: &'a [u32],
-    from: usize,
-    pages: u16,
-    harts: u8,
-    limit: u64,
-    log_limit: u64,
-    answers: &'a [Asked],
-    fails: &'a [u64],
-    list: &'a [(u8, u32)],
-
-    cause: Cause,
-    stop: Option<u32>,
-    size: usize,
-    streams: &'a [&'a [[u64; 7]]],
-    journal: &'a [(u8, u32)],
-    /// A hart, a register, and its value.
-    registers: &'a [(u8, u8, u32)],
-    /// A hart and its pc.
-    places: &'a [(u8, u32)],
-    /// A hart, a CSR, and its value.
-    csrs: &'a [(u8, u16, u32)],
-    /// Where a byte stands in memory, and the byte.
-    bytes: &'a [(usize, u8)],
-    taken: &'a [u8],
-}
-
-fn put_words(rt: &impl Abort, bytes: &mut Vec<u8>, words: &[u32]) {
-    for word in words {
-        bytes
-            .extend_from_slice(&word.to_le_bytes())
-            .expect(rt, "memory");
-    }
-}
-
-fn image(rt: &impl Abort, alloc: Global, row: &Row) -> Image {
-    assert!(rt; 1 <= row.pages && row.pages <= 4096);
-    let mut bytes = Vec::new(alloc);
-    put_words(rt, &mut bytes, row.words);
-    if !row.behind.is_empty() {
-        for _ in row.words.len()..row.from {
-            put_words(rt, &mut bytes, &[0]);
-        }
-        put_words(rt, &mut bytes, row.behind);
-    }
-    read_image(alloc, &bytes, row.pages).expect(rt, "an image")
-}
-
-fn recorded(rt: &impl Abort, alloc: Global, row: &Row) -> Recorded<MemConsole, MemClock> {
-    let image = image(rt, alloc, row);
-    let console = MemConsole::start(alloc, row.answers, Asked::Nothing, 64, row.fails).expect(
-        rt, "memory",
-    );
-    assert!(rt; 1 <= row.harts && row.harts <= 8);
-    assert!(rt; row.limit <= 1_000_000_000_000);
-    assert!(rt; 1024 <= row.log_limit && row.log_limit <= 536_870_912);
-    assert!(rt; has_harts(row.harts, row.list));
-    let clock = MemClock::start(5, 0);
-    match record_list(
-        alloc,
-        &image,
-        row.harts,
-        row.limit,
-        row.log_limit,
-        console,
-        clock,
-        row.list,
-    ) {
-        Ok(recorded) => recorded,
-        Err(_) => panic!(rt; "memory"),
-    }
-}
-
-fn mode_of(mode: Option<Mode>) -> u64 {
-    match mode {
-        None => 0,
-        Some(Mode::Read) => 1,
-        Some(Mode::Write) => 2,
-    }
-}
-
-fn wait_of(waits: &Waits) -> (u64, u64) {
-    match waits.items() {
-        [] => (0, 0),
-        [wait] => (u64::from(wait.hart) + 1, wait.count),
-        _ => (u64::MAX, u64::MAX),
-    }
-}
-
-fn input_of(input: Input) -> (u64, u64) {
-    match input {
-        Input::Nothing => (0, 0),
-        Input::Empty => (1, 0),
-        Input::Byte(byte) => (2, u64::from(byte)),
-        Input::Time(time) => (3, time),
-    }
-}
-
-/// The kind of an entry in the log's bytes, its count, its page and number or its ordinal, and what else it says; of a
-/// gain's wait the hart's number and one.
-fn told(entry: &Entry) -> [u64; 7] {
-    match entry {
-        Entry::Gain {
-            count,
-            page,
-            seq,
-            mode,
-            waits,
-        } => {
-            let wait = wait_of(waits);
-            [
-                1,
-                *count,
-                u64::from(*page),
-                u64::from(*seq),
-                mode_of(Some(*mode)),
-                wait.0,
-                wait.1,
-            ]
-        }
-        Entry::Yield {
-            count,
-            page,
-            seq,
-            left,
-        } => [
-            2,
-            *count,
-            u64::from(*page),
-            u64::from(*seq),
-            mode_of(*left),
-            0,
-            0,
-        ],
-        Entry::Poll {
-            count,
-            ord,
-            time,
-            bits,
-        } => [3, *count, u64::from(*ord), *time, u64::from(*bits), 0, 0],
-        Entry::Touch { count, ord, input } => {
-            let given = input_of(*input);
-            [4, *count, u64::from(*ord), given.0, given.1, 0, 0]
-        }
-        Entry::End { count } => [5, *count, 0, 0, 0, 0, 0],
-    }
-}
-
-fn has_stream(log: &Log, hart: usize, rows: &[[u64; 7]]) -> bool {
-    match log.streams.items().get(hart) {
-        Some(stream) => {
-            stream.items().len() == rows.len()
-                && stream
-                    .items()
-                    .iter()
-                    .zip(rows)
-                    .all(|(entry, row)| told(entry) == *row)
-        }
-        None => false,
-    }
-}
-
-fn has_streams(log: &Log, streams: &[&[[u64; 7]]]) -> bool {
-    for (hart, rows) in streams.iter().enumerate() {
-        if !has_stream(log, hart, rows) {
-            return false;
-        }
-    }
-    true
-}
-
-fn has_size(alloc: Global, log: &Log, size: usize) -> bool {
-    if !in_range(log) {
-        return false;
-    }
-    match write_log(alloc, log) {
-        Ok(bytes) => size == 0 || bytes.len() == size,
-        Err(_) => false,
-    }
-}
-
-fn has_registers(ended: &Final, row: &Row) -> bool {
-    for (hart, register, value) in row.registers {
-        match ended.harts.items().get(usize::from(*hart)) {
-            Some(hart) if *register < 32 => {
-                if hart.reg(*register) != *value {
-                    return false;
-                }
-            }
-            _ => return false,
-        }
-    }
-    true
-}
-
-fn has_places(ended: &Final, row: &Row) -> bool {
-    for (hart, pc) in row.places {
-        match ended.harts.items().get(usize::from(*hart)) {
-            Some(hart) if hart.pc() == *pc => {}
-            _ => return false,
-        }
-    }
-    true
-}
-
-fn has_csrs(ended: &Final, row: &Row) -> bool {
-    for (hart, number, value) in row.csrs {
-        match ended.harts.items().get(usize::from(*hart)) {
-            Some(hart) if hart.csr(*number) == Some(*value) => {}
-            _ => return false,
-        }
-    }
-    true
-}
-
-fn has_bytes(ended: &Final, row: &Row) -> bool {
-    for (at, byte) in row.bytes {
-        if ended.memory.items().get(*at) != Some(byte) {
-            return false;
-        }
-    }
-    true
-}
-
-fn has_end(ended: &Final, row: &Row) -> bool {
-    has_registers(ended, row)
-        && has_places(ended, row)
-        && has_csrs(ended, row)
-        && has_bytes(ended, row)
-}
-
-/// Whether a row's recording comes to what it should.
-fn holds(rt: &impl Abort, alloc: Global, row: &Row) -> bool {
-    let r = recorded(rt, alloc, row);
-    r.log.cause == row.cause
-        && r.ended.stop == row.stop
-        && has_size(alloc, &r.log, row.size)
-        && has_streams(&r.log, row.streams)
-        && (row.journal.is_empty() || r.journal.items() == row.journal)
-        && has_end(&r.ended, row)
-        && r.console.taken() == row.taken
-}
-
-fn plain_row<'a>(words: &'a [u32], harts: u8, limit: u64, list: &'a [(u8, u32)]) -> Row<'a> {
-    Row {
-        words,
-        behind: &[],
-        from: 0,
-        pages: 1,
-        harts,
-        limit,
-        log_limit: 67_108_864,
-        answers: &[],
-        fails: &[],
-        list,
-        cause: Cause::Limit,
-        stop: None,
-        size: 0,
-        streams: &[],
-        journal: &[],
-        registers: &[],
-        places: &[],
-        csrs: &[],
-        bytes: &[],
-        taken: &[],
-    }
-}
 
 const POLL: [u64; 7] = [3, 0, 0, 5, 0, 0, 0];
 
@@ -307,14 +30,14 @@ fn smallest(alloc: Global, rt: &impl Abort) -> bool {
     let wanted = Row {
         cause: Cause::Stop,
         stop: Some(7),
-        size: 123,
+        size: Some(123),
         streams: &[&streams],
         journal: &[(0, 2), (0, 3)],
+        turns: &[(0, 0), (0, 2)],
         places: &[(0, 0x8000_000c)],
         ..stops(&[(0, 100), (0, 100)])
     };
-    let r = recorded(rt, alloc, &wanted);
-    holds(rt, alloc, &wanted) && r.turns.items() == [(0, 0), (0, 2)].as_slice()
+    holds(rt, alloc, &wanted)
 }
 
 fn empty_list(alloc: Global, rt: &impl Abort) -> bool {
@@ -322,6 +45,7 @@ fn empty_list(alloc: Global, rt: &impl Abort) -> bool {
     let wanted = Row {
         cause: Cause::Cut,
         streams: &[&streams],
+        turns: &[(0, 0)],
         ..stops(&[])
     };
     let r = recorded(rt, alloc, &wanted);
@@ -331,8 +55,9 @@ fn empty_list(alloc: Global, rt: &impl Abort) -> bool {
 fn no_moves(alloc: Global, rt: &impl Abort) -> bool {
     let streams = [end(0)];
     let wanted = Row {
-        size: 75,
+        size: Some(75),
         streams: &[&streams, &streams],
+        turns: &[(0, 0), (1, 0)],
         ..plain_row(&STOPS, 2, 0, &[])
     };
     let r = recorded(rt, alloc, &wanted);
@@ -345,8 +70,9 @@ const LOOPS: [u32; 1] = [0x0000_006f];
 fn to_the_first_poll(alloc: Global, rt: &impl Abort) -> bool {
     let streams = [POLL, GAIN, end(4096)];
     let wanted = Row {
-        size: 101,
+        size: Some(101),
         streams: &[&streams],
+        turns: &[(0, 0), (0, 4096)],
         places: &[(0, 0x8000_0000)],
         ..plain_row(&LOOPS, 1, 4096, &[(0, 9000), (0, 9000)])
     };
@@ -356,8 +82,9 @@ fn to_the_first_poll(alloc: Global, rt: &impl Abort) -> bool {
 fn past_the_first_poll(alloc: Global, rt: &impl Abort) -> bool {
     let streams = [POLL, GAIN, [3, 4096, 1, 5, 0, 0, 0], end(4097)];
     let wanted = Row {
-        size: 123,
+        size: Some(123),
         streams: &[&streams],
+        turns: &[(0, 0), (0, 4096), (0, 1)],
         ..plain_row(&LOOPS, 1, 4097, &[(0, 9000), (0, 9000), (0, 9000)])
     };
     holds(rt, alloc, &wanted)
@@ -367,7 +94,7 @@ fn full_log(alloc: Global, rt: &impl Abort) -> bool {
     let wanted = Row {
         log_limit: 1024,
         cause: Cause::Full,
-        size: 1003,
+        size: Some(1003),
         ..plain_row(&LOOPS, 1, 1_000_000, &[(0, 9000); 60])
     };
     let r = recorded(rt, alloc, &wanted);
@@ -421,7 +148,40 @@ fn one_by_one(alloc: Global, rt: &impl Abort) -> bool {
         (1, 8),
         (0, 8),
     ];
-    holds(rt, alloc, &adds(&list, &[(4096, 2), (4097, 0)]))
+    let wanted = Row {
+        journal: &[
+            (0, 2),
+            (0, 2),
+            (0, 3),
+            (0, 5),
+            (1, 2),
+            (1, 1),
+            (0, 1),
+            (1, 1),
+            (1, 2),
+            (0, 1),
+            (1, 1),
+            (1, 5),
+        ],
+        turns: &[
+            (0, 0),
+            (0, 1),
+            (0, 2),
+            (0, 5),
+            (1, 0),
+            (1, 1),
+            (0, 0),
+            (1, 0),
+            (1, 2),
+            (0, 0),
+            (1, 0),
+            (1, 5),
+            (0, 0),
+            (1, 0),
+        ],
+        ..adds(&list, &[(4096, 2), (4097, 0)])
+    };
+    holds(rt, alloc, &wanted)
 }
 
 // Both read before either writes.
@@ -467,6 +227,20 @@ fn in_turns(alloc: Global, rt: &impl Abort) -> bool {
             (0, 6),
             (1, 1),
             (1, 5),
+        ],
+        turns: &[
+            (0, 0),
+            (1, 0),
+            (0, 1),
+            (1, 1),
+            (0, 2),
+            (1, 2),
+            (0, 0),
+            (0, 5),
+            (1, 0),
+            (1, 5),
+            (0, 0),
+            (1, 0),
         ],
         ..adds(&list, &[(4096, 1), (4097, 0)])
     };
@@ -549,13 +323,6 @@ const DOWNGRADES: [u32; 8] = [
     0x0000_006f,
 ];
 
-fn has_row(log: &Log, hart: usize, row: [u64; 7]) -> bool {
-    match log.streams.items().get(hart) {
-        Some(stream) => stream.items().iter().any(|entry| told(entry) == row),
-        None => false,
-    }
-}
-
 // A reader ends the reservation of the hart that held the page in write.
 fn downgraded(alloc: Global, rt: &impl Abort) -> bool {
     let list = [
@@ -569,17 +336,53 @@ fn downgraded(alloc: Global, rt: &impl Abort) -> bool {
         (0, 8),
         (0, 8),
     ];
+    let first = [
+        POLL,
+        GAIN,
+        [1, 3, 1, 0, 2, 0, 0],
+        [2, 4, 1, 1, 1, 0, 0],
+        [1, 4, 1, 4, 2, 2, 8],
+        end(8),
+    ];
+    let second = [
+        NEXT_POLL,
+        NEXT_GAIN,
+        [1, 3, 1, 2, 1, 1, 4],
+        [2, 8, 1, 3, 0, 0, 0],
+        end(8),
+    ];
     let wanted = Row {
         pages: 2,
-        cause: Cause::Cut,
+        size: Some(254),
+        streams: &[&first, &second],
+        journal: &[
+            (0, 2),
+            (0, 4),
+            (1, 2),
+            (1, 3),
+            (0, 2),
+            (1, 1),
+            (1, 6),
+            (0, 1),
+            (0, 4),
+        ],
+        turns: &[
+            (0, 0),
+            (0, 3),
+            (1, 0),
+            (1, 3),
+            (0, 1),
+            (1, 0),
+            (1, 5),
+            (0, 0),
+            (0, 4),
+            (1, 0),
+        ],
         registers: &[(0, 3, 1), (1, 4, 0)],
         bytes: &[(4096, 0), (4097, 0)],
         ..plain_row(&DOWNGRADES, 2, 8, &list)
     };
-    let r = recorded(rt, alloc, &wanted);
-    has_end(&r.ended, &wanted)
-        && has_row(&r.log, 0, [2, 4, 1, 1, 1, 0, 0])
-        && has_row(&r.log, 1, [1, 3, 1, 2, 1, 1, 4])
+    holds(rt, alloc, &wanted)
 }
 
 // Hart 0 stores to hart 1's software interrupt, whose handler at 0x8000010c clears it.
@@ -628,7 +431,7 @@ fn interrupted(alloc: Global, rt: &impl Abort) -> bool {
     let wanted = Row {
         behind: &CLEARS,
         from: 67,
-        size: 241,
+        size: Some(241),
         streams: &[&first, &second],
         journal: &[
             (0, 2),
@@ -695,6 +498,18 @@ fn code_written(alloc: Global, rt: &impl Abort) -> bool {
     ];
     let wanted = Row {
         streams: &[&first, &second],
+        turns: &[
+            (0, 0),
+            (1, 0),
+            (0, 4),
+            (1, 4),
+            (0, 0),
+            (0, 1),
+            (1, 0),
+            (1, 8),
+            (0, 7),
+            (1, 0),
+        ],
         registers: &[(1, 3, 7)],
         places: &[(1, 0x8000_0020)],
         ..plain_row(&WRITES_CODE, 2, 12, &list)
