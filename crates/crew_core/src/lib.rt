@@ -5,6 +5,8 @@ mod accesses;
 mod board;
 mod crew;
 mod finish;
+#[cfg(test)]
+mod full_tests;
 mod gains;
 mod lane;
 mod order;

@@ -18,7 +18,7 @@ use std::marker::Model;
 use std::process::Abort;
 use std::test::Fail;
 
-fn image_of(alloc: Global, words: &[u32], pages: u16) -> Result<Image, Fail> {
+pub(crate) fn image_of(alloc: Global, words: &[u32], pages: u16) -> Result<Image, Fail> {
     let mut bytes = Vec::new(alloc);
     for word in words {
         bytes.extend_from_slice(&word.to_le_bytes())?;
@@ -74,8 +74,8 @@ fn hand(
 
 /// A board with the runs of its harts, and up to where each may move.
 #[derive(Drop)]
-struct Table {
-    board: Board<MemConsole, MemClock>,
+pub(crate) struct Table {
+    pub board: Board<MemConsole, MemClock>,
     runs: Vec<HartRun>,
     untils: Vec<u64>,
 }
@@ -92,7 +92,7 @@ impl Model for Table {
 }
 
 // A board of one hart or of two, with a log of 1,024 bytes or of so many.
-fn begun(
+pub(crate) fn begun(
     alloc: Global,
     image: &Image,
     harts: u8,
@@ -118,7 +118,13 @@ fn begun(
 }
 
 // A hart moves, no more than so often, and has its turn.
-fn step(rt: &impl Abort, alloc: Global, table: &mut Table, hart: u8, most: u64) -> Order {
+pub(crate) fn step(
+    rt: &impl Abort,
+    alloc: Global,
+    table: &mut Table,
+    hart: u8,
+    most: u64,
+) -> Order {
     let harts = table.board.harts();
     assert!(rt; hart < harts);
     let place = usize::from(hart);
@@ -146,7 +152,7 @@ fn follow(rt: &impl Abort, alloc: Global, table: &mut Table, turns: &[(u8, u64, 
     table.board.over()
 }
 
-fn finished(table: Table) -> Option<Recorded<MemConsole, MemClock>> {
+pub(crate) fn finished(table: Table) -> Option<Recorded<MemConsole, MemClock>> {
     let Table { board, runs, .. } = table;
     board.finish(runs).ok()
 }
@@ -267,7 +273,7 @@ fn is_told(recorded: &Recorded<MemConsole, MemClock>, told: &Told) -> bool {
 }
 
 // A console that answers Nothing, and fails in these calls.
-fn quiet(alloc: Global, fails: &[u64]) -> Result<MemConsole, Fail> {
+pub(crate) fn quiet(alloc: Global, fails: &[u64]) -> Result<MemConsole, Fail> {
     Ok(MemConsole::start(alloc, &[], Asked::Nothing, 100, fails)?)
 }
 
@@ -682,105 +688,6 @@ fn is_full(recorded: &Recorded<MemConsole, MemClock>) -> bool {
         && recorded.ended.counts.items() == [83].as_slice()
         && recorded.ended.sent.items().len() == 41
         && recorded.journal.items().len() == 43
-}
-
-/// A board whose log gets full behind so many turns, of the harts by turns, each of so many moves at most.
-struct Filled {
-    words: &'static [u32],
-    harts: u8,
-    limit: u32,
-    room: u16,
-    turns: u8,
-    most: u64,
-    counts: &'static [u64],
-    // the entries of each hart, with its End
-    entries: &'static [usize],
-    journal: usize,
-    rows: usize,
-}
-
-// jal to itself: the 43rd Poll is refused.
-const POLLS: Filled = Filled {
-    words: &[0x0000_006f],
-    harts: 1,
-    limit: 1_000_000,
-    room: 1024,
-    turns: 43,
-    most: 4096,
-    counts: &[172_032],
-    entries: &[44],
-    journal: 43,
-    rows: 43,
-};
-
-// lui x1, 0x80001; sw x2, 0(x1); jal back to it: two harts hand a page over to each other. A Yield is refused.
-const YIELDS: Filled = Filled {
-    words: &[0x8000_10b7, 0x0020_a023, 0xffdf_f06f],
-    harts: 2,
-    limit: 200,
-    room: 1024,
-    turns: 65,
-    most: 1,
-    counts: &[22, 21],
-    entries: &[24, 23],
-    journal: 65,
-    rows: 65,
-};
-
-// With two bytes more it is the Gain behind it.
-const GAINS: Filled = Filled {
-    words: &[0x8000_10b7, 0x0020_a023, 0xffdf_f06f],
-    harts: 2,
-    limit: 200,
-    room: 1026,
-    turns: 66,
-    most: 1,
-    counts: &[22, 21],
-    entries: &[25, 23],
-    journal: 65,
-    rows: 66,
-};
-
-fn is_filled(recorded: &Recorded<MemConsole, MemClock>, case: &Filled) -> bool {
-    let entries = recorded
-        .log
-        .streams
-        .items()
-        .iter()
-        .map(|stream| stream.items().len());
-    recorded.log.cause == Cause::Full
-        && recorded.ended.counts.items() == case.counts
-        && entries.eq(case.entries.iter().copied())
-        && recorded.journal.items().len() == case.journal
-        && recorded.turns.items().len() == case.rows
-}
-
-fn fills(rt: &impl Abort, alloc: Global, case: &Filled) -> Result<bool, Fail> {
-    let image = image_of(alloc, case.words, 2)?;
-    let mut table = begun(
-        alloc,
-        &image,
-        case.harts,
-        case.limit,
-        case.room,
-        quiet(alloc, &[])?,
-    )?;
-    for turn in 0..case.turns {
-        if table.board.over() {
-            return Ok(false);
-        }
-        let _ = step(rt, alloc, &mut table, turn % case.harts.max(1), case.most);
-    }
-    let over = table.board.over();
-    Ok(over && finished(table).is_some_and(|recorded| is_filled(&recorded, case)))
-}
-
-#[test]
-fn a_log_is_full_at_a_poll_a_yield_or_a_gain(rt: HostRuntime) -> Result<(), Fail> {
-    assert!(rt; fills(&rt, rt.alloc(), &POLLS)?);
-    assert!(rt; fills(&rt, rt.alloc(), &YIELDS)?);
-    assert!(rt; fills(&rt, rt.alloc(), &GAINS)?);
-    Ok(())
 }
 
 fn cut(table: &mut Table) {
