@@ -121,8 +121,28 @@ fn input_of(input: Input) -> (u64, u64) {
     }
 }
 
-/// The kind of an entry in the log's bytes, its count, its page and number or its ordinal, and what else it says; of a
-/// gain's wait the hart's number and one.
+/// What stands of an entry that changes who holds a page: its kind in the log's bytes, its count, its page and number, the
+/// mode gained or left, and of a gain's wait the hart's number and one.
+fn page_row(
+    kind: u64,
+    count: u64,
+    place: (u32, u32),
+    mode: Option<Mode>,
+    wait: (u64, u64),
+) -> [u64; 7] {
+    let (page, seq) = place;
+    [
+        kind,
+        count,
+        u64::from(page),
+        u64::from(seq),
+        mode_of(mode),
+        wait.0,
+        wait.1,
+    ]
+}
+
+/// The kind of an entry in the log's bytes, its count, its page and number or its ordinal, and what else it says.
 fn told(entry: &Entry) -> [u64; 7] {
     match entry {
         Entry::Gain {
@@ -131,32 +151,13 @@ fn told(entry: &Entry) -> [u64; 7] {
             seq,
             mode,
             waits,
-        } => {
-            let wait = wait_of(waits);
-            [
-                1,
-                *count,
-                u64::from(*page),
-                u64::from(*seq),
-                mode_of(Some(*mode)),
-                wait.0,
-                wait.1,
-            ]
-        }
+        } => page_row(1, *count, (*page, *seq), Some(*mode), wait_of(waits)),
         Entry::Yield {
             count,
             page,
             seq,
             left,
-        } => [
-            2,
-            *count,
-            u64::from(*page),
-            u64::from(*seq),
-            mode_of(*left),
-            0,
-            0,
-        ],
+        } => page_row(2, *count, (*page, *seq), *left, (0, 0)),
         Entry::Poll {
             count,
             ord,
