@@ -1,5 +1,6 @@
 -- Turns by a list, one after another.
-use Rattle.std.proofs.Common.{◌≡◌, ◌≢◌, ◌↔◌, ◌⊎◌, inl, inr, ℕ, zero, suc, ◌+◌, ◌*◌, ◌<◌, ◌≤◌, ◌^◌, ◌==◌, ◌++◌, min, Bool, true, false, List, [], ◌∷◌, map, length, take, nat_lt, IfErr, IfOk, IsErrAnd, IsTrue, MatchResult, Ok, Err, Result}
+use Rattle.std.proofs.Common.{◌≡◌, ◌≢◌, ◌↔◌, ◌⊎◌, inl, inr, ℕ, zero, suc, ◌+◌, ◌*◌, ◌<◌, ◌≤◌, ◌^◌, ◌==◌, ◌++◌, min, Bool, true, false, List, [], ◌∷◌, map}
+use Rattle.std.proofs.Common.{length, take, nat_lt, IfErr, IfOk, IsErrAnd, IsTrue, MatchResult, Ok, Err, Result}
 use Rattle.std.proofs.Common.{get_or, Option, Some, refl, sym, ap, ap₂, ◌∙◌, subst, arith, if◌then◌else◌}
 use Rattle.std.specs.List.{list_all}
 use Rattle.std.proofs.lemmas.Bool.{and_from, and_parts, lt-ltb, ltb-true}
@@ -15,7 +16,8 @@ use Rattle.turn_model.specs.Laws.{OfHarts}
 use Rattle.turn_model.specs.Board.{harts}
 use Rattle.turn_model.specs.Lists.{listed, cut, whole_leg}
 use Rattle.turn_laws.specs.EndLaws.{AreInLimits}
-use Rattle.crew_parts.specs.Boards.{Plain, World, EndsAs, IsBoardOf, the_machine, board_of, cut_in, is_over_in, plain_at_start, spent, state_of, terms_of, told_to}
+use Rattle.crew_parts.specs.Boards.{Plain, World, EndsAs, IsBoardOf, the_machine, board_of, cut_in, is_over_in, plain_at_start, spent, state_of, terms_of}
+use Rattle.crew_parts.specs.Boards.{told_to}
 use Rattle.crew_parts.specs.Parts.{AreParts, IsPart, IsPartAdvanced}
 use Rattle.crew_core.specs.declared.order.Order.{Order}
 use Rattle.recorded_turns.specs.Laws.{IsTaken}
@@ -29,7 +31,8 @@ use Rattle.recorder.specs.Listed.{HasRow, TakesRows, TakesList}
 use Rattle.recorder.specs.Manned.{HasGiven, IsManned, HasTurnOf, leg_in, row_moves, still, without}
 use Rattle.recorder.proofs.Manning.{given_none, part_of_still}
 
-manned_as : (p : Plain) (runs : List Run) (orders : List (Option Order)) (f k : ℕ → ℕ) → ((g : ℕ) → f g ≡ k g) → IsManned p runs orders f → IsManned p runs orders k
+manned_as : (p : Plain) (runs : List Run) (orders : List (Option Order)) (f k : ℕ → ℕ) → ((g : ℕ) → f g ≡ k g) → IsManned p runs orders f
+    → IsManned p runs orders k
 manned_as p runs orders f k same is = record {
   number = is.number;
   places = is.places;

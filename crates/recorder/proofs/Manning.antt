@@ -1,5 +1,6 @@
 -- Runs at hand: advanced, and behind turns.
-use Rattle.std.proofs.Common.{◌≡◌, ◌≢◌, ◌⊎◌, inl, inr, ℕ, ◌+◌, ◌-◌, ◌<◌, ◌≤◌, ◌==◌, min, true, List, length, replicate, Option, Some, None, slice_get, slice_index, slice_index_or}
+use Rattle.std.proofs.Common.{◌≡◌, ◌≢◌, ◌⊎◌, inl, inr, ℕ, ◌+◌, ◌-◌, ◌<◌, ◌≤◌, ◌==◌, min, true, List, length, replicate, Option, Some, None, slice_get}
+use Rattle.std.proofs.Common.{slice_index, slice_index_or}
 use Rattle.std.proofs.Common.{slice_set, unwrap_or, false, refl, sym, ap, ap₂, ◌∙◌, subst, arith, if◌then◌else◌}
 use Rattle.std.proofs.lemmas.Bool.Decides.{eqb_tells}
 use Rattle.std.proofs.lemmas.List.{length-set, length-replicate}
@@ -206,7 +207,8 @@ manned_row p runs orders h most r after order holds inside here here_told is wen
       (is.each g x (sym (set_there runs h g after other.1) ∙ at))
 
 -- before any turn
-pub manned_start : (p : Plain) (image : Image) (harts limit log_limit n : ℕ) (world : World) (runs : List Run) → p ≡ plain_at_start image harts limit log_limit world
+pub manned_start : (p : Plain) (image : Image) (harts limit log_limit n : ℕ) (world : World) (runs : List Run) → p
+    ≡ plain_at_start image harts limit log_limit world
     → IsBoardOf p → AreParts p runs → harts ≤ n → IsManned p runs (replicate n None) still
 manned_start p image harts limit log_limit n world runs is holds parts few = record {
   number = parts.number;
@@ -222,7 +224,8 @@ manned_start p image harts limit log_limit n world runs is holds parts few = rec
 } where
   none_there : (n h : ℕ) (o : Option Order) → slice_get (replicate n None) h ≡ Some o → None ≡ o
   none_there n h o at =
-      same_Some _ _ (sym (get_replicate n h None (let l = slice_get_within (replicate n None) h o at in let k = length-replicate {A = Option Order} n None in omega (arith, l, k))) ∙ at)
+      same_Some _ _ (sym (get_replicate n h None (let l = slice_get_within (replicate n None) h o at in let k = length-replicate {A = Option Order} n
+      None in omega (arith, l, k))) ∙ at)
 
 -- a run and what its hart was told, by their place
 pub run_there : (p : Plain) (runs : List Run) (orders : List (Option Order)) (moves : ℕ → ℕ) (h place : ℕ) (r : Run) → IsManned p runs orders moves

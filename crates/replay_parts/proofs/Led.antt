@@ -159,7 +159,8 @@ module _ (log : Log) (image : Image) (is : IsReplayable log image) where
       ap (λ i. goes (board (unit_of log)) s h i (verdict_on (board (unit_of log)) s h i)) next ∙ ap (goes (board (unit_of log)) s h Move) runs.0
       ∙ ap (option_map (λ (t : Replay FlatState). (t, told_of (board (unit_of log)) s h Move t))) runs.1.1 in
       led_more s runs.1.0 t h (told_of (board (unit_of log)) s h Move runs.1.0) going did_it
-      (led_by_runs n h runs.1.0 t e (going_lasts log image is s runs.1.0 h (told_of (board (unit_of log)) s h Move runs.1.0) going did_it) (omega (arith, l, size))
+      (led_by_runs n h runs.1.0 t e (going_lasts log image is s runs.1.0 h (told_of (board (unit_of log)) s h Move runs.1.0) going did_it)
+      (omega (arith, l, size))
       (ap (λ c. first_left log c h) (made_cursor (unit_of log) h s runs.1.0 runs.1.1) ∙ first) within runs.1.2)
 
   -- and its entries

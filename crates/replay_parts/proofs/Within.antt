@@ -31,7 +31,8 @@ module _ {S E : Type 0} (step : ℕ → S → Option (S × E)) (harts : ℕ) whe
   pub end_found : (n : ℕ) (s t : S) (xs : List (ℕ × E)) → length xs ≤ n → IsLeast step harts s xs t → least_end step harts n s ≡ t
   end_found zero s t [] short is = is.1
   end_found zero s t (x ∷ xs) short is = absurd (omega (arith, short))
-  end_found (suc n) s t [] short is = ap (λ (o : Option ℕ). option_map_or (λ h. option_map_or (λ (m : S × E). least_end step harts n m.0) (step h s) s) o s) is.0 ∙ is.1
+  end_found (suc n) s t [] short is = ap (λ (o : Option ℕ). option_map_or (λ h. option_map_or (λ (m : S × E). least_end step harts n m.0) (step h s) s) o s)
+      is.0 ∙ is.1
   end_found (suc n) s t (x ∷ xs) short is =
       ap (λ (o : Option ℕ). option_map_or (λ h. option_map_or (λ (m : S × E). least_end step harts n m.0) (step h s) s) o s) is.0
       ∙ ap (λ (o : Option (S × E)). option_map_or (λ (m : S × E). least_end step harts n m.0) o s) is.1.1
@@ -263,7 +264,8 @@ states_are p s r =
     let most = all_done p.log p.image r.replayable (first_replay p.log p.image) s l.0 ok (least_leads p r.replayable (first_replay p.log p.image) s l.0 l.1) in
     let places = ap total r.places in
     let counts = ap total r.counts in
-    end_found (step_within p) (length p.log.streams) (total p.places + total p.counts) (first_replay p.log p.image) s l.0 (omega (arith, most, places, counts)) l.1
+    end_found (step_within p) (length p.log.streams) (total p.places + total p.counts) (first_replay p.log p.image) s l.0
+    (omega (arith, most, places, counts)) l.1
 
 pub first_boards : FirstBoards
 first_boards log image is = record { replayable = is; order = []; obeys = ([], refl, refl); places = refl; counts = refl }

@@ -28,7 +28,8 @@ use Rattle.revirt_tool.specs.Closing.{Prints, PrintsOrFails, status_of, status_u
 use Rattle.revirt_tool.specs.Promise.{KeepsRecording, is_fault}
 use Rattle.revirt_tool.specs.Complete.{AreDone, HasImage, HoldsLog, HasLog, KeptAreLogs, NothingFailed}
 use Rattle.revirt_tool.specs.declared.ending.Ending.{Ending}
-use Rattle.revirt_tool.specs.declared.ending.Ending.TheVariants.{Usage, NotBuilt, TooLong, ImageRefused, Malformed, OtherImage, Disorderly, Diverged, NoMemory, ShelfFault, Kept, Listed}
+use Rattle.revirt_tool.specs.declared.ending.Ending.TheVariants.{Usage, NotBuilt, TooLong, ImageRefused, Malformed, OtherImage, Disorderly, Diverged}
+use Rattle.revirt_tool.specs.declared.ending.Ending.TheVariants.{NoMemory, ShelfFault, Kept, Listed}
 
 abbrev ok_or : {X : Type 0} → X → Result X Bad → X
 ok_or other (Ok x) = x

@@ -1,5 +1,6 @@
 -- A recording that was kept keeps what the program promises.
-use Rattle.std.proofs.Common.{◌≡◌, ℕ, ◌+◌, ◌<◌, ◌==◌, ◌&&◌, not, Bool, true, false, List, [], ◌∷◌, ◌++◌, map, length, slice_get, slice_index, None, IsTrue, sym, ap, ap₂, ◌∙◌, subst, Option}
+use Rattle.std.proofs.Common.{◌≡◌, ℕ, ◌+◌, ◌<◌, ◌==◌, ◌&&◌, not, Bool, true, false, List, [], ◌∷◌, ◌++◌, map, length, slice_get, slice_index, None, IsTrue}
+use Rattle.std.proofs.Common.{sym, ap, ap₂, ◌∙◌, subst, Option}
 use Rattle.std.proofs.Common.{Some, IfSome, Ok, Err, inl, inr, ⊎_elim, refl, arith}
 use Rattle.std.specs.Prelude.{◌↔◌}
 use Rattle.std.specs.List.{enumerate_from}
@@ -54,7 +55,8 @@ use Rattle.revirt_tool.proofs.Ended.{stream_ended, agrees_so}
 use Rattle.revirt_tool.proofs.Replayed.{at_end, reportable}
 use Rattle.revirt_tool.specs.declared.ending.File.TheVariants as files
 use Rattle.revirt_tool.specs.declared.ending.Ending.{Ending}
-use Rattle.revirt_tool.specs.declared.ending.Ending.TheVariants.{Usage, NotBuilt, TooLong, ImageRefused, Malformed, OtherImage, Disorderly, Diverged, NoMemory, ShelfFault, Kept, Listed}
+use Rattle.revirt_tool.specs.declared.ending.Ending.TheVariants.{Usage, NotBuilt, TooLong, ImageRefused, Malformed, OtherImage, Disorderly, Diverged}
+use Rattle.revirt_tool.specs.declared.ending.Ending.TheVariants.{NoMemory, ShelfFault, Kept, Listed}
 
 -- full orders of a replayable log agree, from the start of a board with as many harts as it has streams
 every : (log : Log) (image : Image) (is : IsReplayable log image) (harts : ℕ) (order : List ℕ) (end : Replay FlatState) → length log.streams ≡ harts

@@ -1,5 +1,6 @@
 -- Where a replay ends, what of it can be reported, and what comes of it beside what was fetched.
-use Rattle.std.proofs.Common.{◌≡◌, ℕ, Bool, true, false, List, [], ◌∷◌, length, Option, Some, None, if◌then◌else◌, true≢false, refl, sym, ap, ◌∙◌, subst, inl, inr}
+use Rattle.std.proofs.Common.{◌≡◌, ℕ, Bool, true, false, List, [], ◌∷◌, length, Option, Some, None, if◌then◌else◌, true≢false, refl, sym, ap, ◌∙◌, subst}
+use Rattle.std.proofs.Common.{inl, inr}
 use Rattle.std.specs.Prelude.{◌&&◌, is_some, IsSome, IsTrue}
 use Rattle.std.proofs.lemmas.Bool.{and_parts}
 use Rattle.std.proofs.lemmas.Option.{none-some, same_Some}
@@ -53,7 +54,8 @@ stopped cause a b agrees is =
     (and_parts (same true a) b (subst (λ c. (same (is_stop c) a && b) ≡ true) is agrees)).0
 
 -- the end of a replay that is done can be reported
-module _ (log : Log) (image : Image) (is : IsReplayable log image) (s : FlatState) (done : IsOutcome (board (unit_of log)) log (first_flat log image) (Done s)) where
+module _ (log : Log) (image : Image) (is : IsReplayable log image) (s : FlatState)
+    (done : IsOutcome (board (unit_of log)) log (first_flat log image) (Done s)) where
   pub at_end : (cause_agrees (board (unit_of log)) log done.1.0.flat ≡ true) × (done.1.0.flat ≡ s)
   at_end =
       done_of (all_ended (board (unit_of log)) log done.1.0) (cause_agrees (board (unit_of log)) log done.1.0.flat) done.1.0.flat s _

@@ -36,7 +36,8 @@ use Rattle.revirt_tool.specs.Serving.{Around, TaskAs, EndsAs}
 use Rattle.revirt_tool.specs.Complete.{HoldsReplay, HasReplay, HasTrace, NothingFailed, IsReplayed, end_held, ReplaysAreDone, TracesAreDone, KeptAreReplayed}
 use Rattle.revirt_tool.specs.declared.ending.File.TheVariants as files
 use Rattle.revirt_tool.specs.declared.ending.Ending.{Ending}
-use Rattle.revirt_tool.specs.declared.ending.Ending.TheVariants.{Usage, NotBuilt, TooLong, ImageRefused, Malformed, OtherImage, Disorderly, Diverged as DivergedSo, NoMemory, ShelfFault, Kept, Listed}
+use Rattle.revirt_tool.specs.declared.ending.Ending.TheVariants.{Usage, NotBuilt, TooLong, ImageRefused, Malformed, OtherImage, Disorderly}
+use Rattle.revirt_tool.specs.declared.ending.Ending.TheVariants.{Diverged as DivergedSo, NoMemory, ShelfFault, Kept, Listed}
 use Rattle.revirt_tool.proofs.Replayed.{is_done, state_of}
 use Rattle.revirt_tool.proofs.Completeness.{past, same_task, in_grammar, prints, printed, log_not_long, well_formed, reads_alike, not_disorderly, kept_log_held}
 

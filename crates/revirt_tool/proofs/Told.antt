@@ -27,7 +27,8 @@ use Rattle.flat_machine.specs.declared.results.Step.{Step}
 use Rattle.orders_law.specs.Orders.{Leads, IsLeast}
 use Rattle.replay_model.specs.Board.{board}
 use Rattle.replay_model.specs.State.{Replay}
-use Rattle.replay_model.specs.Items.{Item, Ended, Move, Makes, Verdict, HasEnded, Holds, CanGo, HasDiverged, told_of, goes, made as made_by, next_item, verdict, step, story}
+use Rattle.replay_model.specs.Items.{Item, Ended, Move, Makes, Verdict, HasEnded, Holds, CanGo, HasDiverged, told_of, goes, made as made_by, next_item}
+use Rattle.replay_model.specs.Items.{verdict, step, story}
 use Rattle.replay_law.specs.Laws.{first_replay}
 use Rattle.replay_core.specs.Stories.{moves_of, moves_between, IsStoryOf}
 use Rattle.report_view.specs.Trace.{is_told}

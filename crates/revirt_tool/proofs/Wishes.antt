@@ -1,5 +1,6 @@
 -- What the words ask for.
-use Rattle.std.proofs.Common.{◌≡◌, ◌≢◌, ℕ, Bool, true, false, List, Option, Some, None, Result, Ok, Err, option_map, IfSome, inl, inr, refl, sym, ap, ◌∙◌, subst}
+use Rattle.std.proofs.Common.{◌≡◌, ◌≢◌, ℕ, Bool, true, false, List, Option, Some, None, Result, Ok, Err, option_map, IfSome, inl, inr, refl, sym, ap, ◌∙◌}
+use Rattle.std.proofs.Common.{subst}
 use Rattle.std.specs.Prelude.{if◌then◌else◌, IsOk, is_ok}
 use Rattle.std.proofs.lemmas.Option.{none-some, same_Some}
 use Rattle.command_words.specs.declared.job.Job.{Job}
@@ -16,7 +17,8 @@ use Rattle.revirt_tool.specs.Replays.{ReplaysAs}
 use Rattle.revirt_tool.specs.Traces.{TracesAs}
 use Rattle.revirt_tool.specs.Serving.{RecordsAs, TaskAs, EndsAs}
 use Rattle.revirt_tool.specs.declared.ending.Ending.{Ending}
-use Rattle.revirt_tool.specs.declared.ending.Ending.TheVariants.{Usage, NotBuilt, TooLong, ImageRefused, Malformed, OtherImage, Disorderly, Diverged, NoMemory, ShelfFault, Kept, Listed}
+use Rattle.revirt_tool.specs.declared.ending.Ending.TheVariants.{Usage, NotBuilt, TooLong, ImageRefused, Malformed, OtherImage, Disorderly, Diverged}
+use Rattle.revirt_tool.specs.declared.ending.Ending.TheVariants.{NoMemory, ShelfFault, Kept, Listed}
 
 abbrev wished : List ℕ → List ℕ → Option (List ℕ) → ℕ → ℕ → ℕ → ℕ → Wish
 wished image log dump harts pages limit log_limit =

@@ -4,7 +4,8 @@ use Rattle.outside.specs.Causes.{Rose}
 use Rattle.outside.specs.Seen.{SeenSink, Writes, WritesPart}
 use Rattle.revirt_tool.specs.Lines.{usage_line, too_long_line, image_line, malformed_line, other_line, disorderly_line, diverged_line, no_memory_line}
 use Rattle.revirt_tool.specs.declared.ending.Ending.{Ending}
-use Rattle.revirt_tool.specs.declared.ending.Ending.TheVariants.{Usage, NotBuilt, TooLong, ImageRefused, Malformed, OtherImage, Disorderly, Diverged, NoMemory, ShelfFault, Kept, Listed}
+use Rattle.revirt_tool.specs.declared.ending.Ending.TheVariants.{Usage, NotBuilt, TooLong, ImageRefused, Malformed, OtherImage, Disorderly, Diverged}
+use Rattle.revirt_tool.specs.declared.ending.Ending.TheVariants.{NoMemory, ShelfFault, Kept, Listed}
 
 abbrev pub text_of : Ending → List ℕ
 text_of (Usage place) = usage_line place

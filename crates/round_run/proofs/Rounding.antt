@@ -1,5 +1,6 @@
 -- Rounds until the board is over, and the last turns.
-use Rattle.std.proofs.Common.{◌≡◌, ◌≢◌, ◌⊎◌, inl, inr, ℕ, zero, suc, ◌+◌, ◌*◌, ◌<◌, ◌≤◌, ◌==◌, not, nat_lt, Bool, true, false, List, [], ◌∷◌, ◌++◌, map, length, replicate}
+use Rattle.std.proofs.Common.{◌≡◌, ◌≢◌, ◌⊎◌, inl, inr, ℕ, zero, suc, ◌+◌, ◌*◌, ◌<◌, ◌≤◌, ◌==◌, not, nat_lt, Bool, true, false, List, [], ◌∷◌, ◌++◌, map}
+use Rattle.std.proofs.Common.{length, replicate}
 use Rattle.std.proofs.Common.{slice_get, slice_index, Option, Some, None, unwrap_or, refl, sym, ap, ap₂, ◌∙◌, subst, arith, if◌then◌else◌}
 use Rattle.std.proofs.lemmas.Bool.{lt-ltb, le-ltb, ltb-false, ltb-true}
 use Rattle.std.proofs.lemmas.Bool.Decides.{eqb_tells}
@@ -41,7 +42,8 @@ none_told p h start less =
     ap (leg_by the_machine (terms_of p) h (board_of p spent))
     (ap (λ (z : Plain). told_to z h) start ∙ ap (λ o. unwrap_or o None) (get_replicate p.harts h None less))
 
-pub rounds_begin : (p : Plain) (runs : List Run) (orders : List (Option Order)) (stood : List ℕ) → p ≡ start_of p → IsManned p runs orders still → HaveStood p stood
+pub rounds_begin : (p : Plain) (runs : List Run) (orders : List (Option Order)) (stood : List ℕ) → p ≡ start_of p → IsManned p runs orders still
+    → HaveStood p stood
     → TakesRounds 0 p p runs orders stood
 rounds_begin p runs orders stood start is has_stood = record {
   takes = takes_none p;
@@ -146,7 +148,8 @@ pub last_begins : (p : Plain) (runs : List Run) (orders : List (Option Order)) (
     → LastTurnsTo 0 p p runs orders stood
 last_begins p runs orders stood ready has_stood = record {
   takes = takes_none p;
-  manned = manned_as p runs orders (ready_moves true p) (last_moves 0 p) (λ h less. ap (λ b. if b then 0 else leg_in p h) (sym (le-ltb h 0 (omega arith)))) ready;
+  manned = manned_as p runs orders (ready_moves true p) (last_moves 0 p) (λ h less. ap (λ b. if b then 0 else leg_in p h) (sym (le-ltb h 0 (omega arith))))
+      ready;
   stays = λ h from less. has_stood h less;
 }
 
@@ -285,7 +288,8 @@ pub is_start : (p : Plain) (image : Image) (number limit log_limit : ℕ) (world
 is_start p image number limit log_limit world is = is ∙ ap start_of (sym is)
 
 -- what was recorded
-pub rounds_recorded : (image : Image) (number limit log_limit : ℕ) (world after : World) (p q : Plain) (runs : List Run) (orders : List (Option Order)) (log : Log)
+pub rounds_recorded : (image : Image) (number limit log_limit : ℕ) (world after : World) (p q : Plain) (runs : List Run) (orders : List (Option Order))
+    (log : Log)
     (ended : Final) (journal turns : List (ℕ × ℕ)) → IsWhole image → 1 ≤ number → number ≤ 8 → limit ≤ 1000000000000 → 1024 ≤ log_limit
     → log_limit ≤ 536870912 → p ≡ plain_at_start image number limit log_limit world → TakesAll p q runs orders → EndsAs q log ended journal turns
     → after ≡ q.now → RecordsInRounds (plain_at_start image number limit log_limit world) after log ended journal turns

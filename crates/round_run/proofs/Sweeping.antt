@@ -51,7 +51,8 @@ favour_leaves p f runs orders moves is = record {
 leg_favoured : (p : Plain) (f h : ℕ) → leg_in (record p { favoured = f }) h ≡ leg_in p h
 unfolding state_of
 leg_favoured p f h = by (told_to p h) where
-  by : (o : Option model.Order) → leg_by the_machine (terms_of p) h (board_of (record p { favoured = f }) spent) o ≡ leg_by the_machine (terms_of p) h (board_of p spent) o
+  by : (o : Option model.Order) → leg_by the_machine (terms_of p) h (board_of (record p { favoured = f }) spent) o
+      ≡ leg_by the_machine (terms_of p) h (board_of p spent) o
   by None = refl
   by (Some Rest) = refl
   by (Some (Hold page g)) = refl

@@ -1,4 +1,5 @@
-use Rattle.recorded_turns.proofs.Advanced.{legs_advance, rows_advance, parts_are_advanced, turns_leave_parts, others_stay_advanced, others_stay_told, favoured_stay_advanced}
+use Rattle.recorded_turns.proofs.Advanced.{legs_advance, rows_advance, parts_are_advanced, turns_leave_parts, others_stay_advanced, others_stay_told}
+use Rattle.recorded_turns.proofs.Advanced.{favoured_stay_advanced}
 use Rattle.recorded_turns.proofs.legs_stay_made.Goals as goal
 
 pub returns-clause-legs : goal.returns-clause-legs

@@ -24,20 +24,24 @@ returns-in-ImageRefused g c =
 
 pub returns-in-Malformed : goal.returns-in-Malformed
 returns-in-Malformed g c =
-    as_line (λ s. string_bytes s) c.format-line.result c.args.ending (Malformed c.in-Malformed.offset c.in-Malformed.rule) _ _ 6 c.print_line-in-Malformed.result
+    as_line (λ s. string_bytes s) c.format-line.result c.args.ending (Malformed c.in-Malformed.offset c.in-Malformed.rule) _ _ 6
+    c.print_line-in-Malformed.result
     c.in-Malformed.is refl refl refl c.format-line.ensures.ok c.print_line-in-Malformed.ensures
 
 pub returns-in-OtherImage : goal.returns-in-OtherImage
 returns-in-OtherImage g c =
-    as_line (λ s. string_bytes s) c.other_line.result c.args.ending (OtherImage c.in-OtherImage.log c.in-OtherImage.image) _ _ 10 c.print_line-in-OtherImage.result
+    as_line (λ s. string_bytes s) c.other_line.result c.args.ending (OtherImage c.in-OtherImage.log c.in-OtherImage.image) _ _ 10
+    c.print_line-in-OtherImage.result
     c.in-OtherImage.is refl refl refl c.other_line.ensures c.print_line-in-OtherImage.ensures
 
 pub returns-in-Disorderly : goal.returns-in-Disorderly
 returns-in-Disorderly g c =
-    as_line (λ s. string_bytes s) c.disorderly_line.result c.args.ending (Disorderly c.in-Disorderly.rule c.in-Disorderly.hart c.in-Disorderly.entry) _ _ 7 c.print_line-in-Disorderly.result
+    as_line (λ s. string_bytes s) c.disorderly_line.result c.args.ending (Disorderly c.in-Disorderly.rule c.in-Disorderly.hart c.in-Disorderly.entry) _ _ 7
+    c.print_line-in-Disorderly.result
     c.in-Disorderly.is refl refl refl c.disorderly_line.ensures c.print_line-in-Disorderly.ensures
 
 pub returns-in-Diverged : goal.returns-in-Diverged
 returns-in-Diverged g c =
-    as_line (λ s. string_bytes s) c.format-line-in-Diverged.result c.args.ending (Diverged c.in-Diverged.hart c.in-Diverged.count c.in-Diverged.rule) _ _ 8 c.print_line-in-Diverged.result
+    as_line (λ s. string_bytes s) c.format-line-in-Diverged.result c.args.ending (Diverged c.in-Diverged.hart c.in-Diverged.count c.in-Diverged.rule) _ _ 8
+    c.print_line-in-Diverged.result
     c.in-Diverged.is refl refl refl c.format-line-in-Diverged.ensures.ok c.print_line-in-Diverged.ensures
