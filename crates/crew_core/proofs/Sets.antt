@@ -19,7 +19,8 @@ use Rattle.crew_parts.specs.Boards.{the_board}
 use Rattle.elf_image.specs.Image.{Image}
 use Rattle.log_entry.specs.Waits.{WaitList}
 use Rattle.replay_model.specs.State.{Replay, IsCrewState}
-use Rattle.crew_parts.specs.Boards.{Plain, World, AreNumbered, IsReached, board_of, cut_in, is_over_in, spent, state_of}
+use Rattle.crew_parts.specs.Boards.{Plain, World, IsReached, board_of, cut_in, is_over_in, spent, state_of}
+use Rattle.run_model.specs.Numbers.{AreNumbered}
 use Rattle.crew_parts.proofs.Laws.{boards_set}
 use Rattle.crew_core.specs.Kept.{IsReady, IsRoomier, IsSpare, Keeps, plain_of}
 use Rattle.crew_core.specs.Lanes.{Lane, Rows}

@@ -1,4 +1,3 @@
-mod Numbers
 mod States
 mod Reaching
 mod Setting

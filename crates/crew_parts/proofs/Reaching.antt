@@ -22,17 +22,11 @@ use Rattle.turn_laws.proofs.ReachedBoards.{faithful_board, known, reached_is}
 use Rattle.run_model.specs.Run.{Run}
 use Rattle.run_model.specs.Legs.{Runs}
 use Rattle.turn_laws.proofs.Legs.{reached_are_crew}
-use Rattle.crew_parts.specs.Boards.{Plain, AreNumbered, IsReached, the_board, the_machine, board_of, spent, state_of, terms_of}
+use Rattle.crew_parts.specs.Boards.{Plain, IsReached, the_board, the_machine, board_of, spent, state_of, terms_of}
 use Rattle.crew_parts.specs.Parts.{IsPartAdvanced, number_of}
-use Rattle.crew_parts.proofs.Numbers.{numbers_kept}
+use Rattle.run_model.specs.Numbers.{AreNumbered}
+use Rattle.run_model.proofs.Numbers.{numbered_first, numbers_kept}
 use Rattle.crew_parts.proofs.States.{state_is}
-
-numbered_first : (image : Image) (harts : ℕ) → AreNumbered (flat_at_start image harts)
-numbered_first image harts h x is =
-    let m = map_at (λ id. hart_at_start id harts image.pages image.entry) (range_with_len 0 harts) h x is in
-    let l : h < harts = (let w = slice_get_within (range_with_len 0 harts) h m.0 m.1 in let n = length-range_with_len 0 harts in omega (arith, w, n)) in
-    ap (λ (z : Hart). z.csrs.hart) (sym m.2) ∙ sym (get_or_from_slice_get (range_with_len 0 harts) h m.0 0 m.1) ∙ get_or-range_with_len 0 harts h 0 l
-    ∙ zero-add h
 
 Good : ℕ → ℕ → FlatState → Type 0
 Good harts pages s = IsPagedBoard harts pages s × AreNumbered s

@@ -2,21 +2,16 @@
 use Rattle.std.proofs.Common.{◌≡◌, ◌≢◌, ◌⊎◌, inl, inr, ℕ, zero, suc, ◌+◌, ◌-◌, ◌≤◌, ◌++◌, List, [], ◌∷◌, map, length, Option, Some, None, slice_get}
 use Rattle.std.proofs.Common.{slice_index}
 use Rattle.std.proofs.Common.{refl, sym, ap, ap₂, ◌∙◌, subst, arith, append-nil, zero-add}
-use Rattle.std.specs.Prelude.{IsSome}
 use Rattle.std.specs.Option.{option_map, option_map_or}
 use Rattle.std.proofs.lemmas.Option.{get_or_from_slice_get}
 use Rattle.rv_words.specs.Limits.{page_bytes}
 use Rattle.rv_words.specs.declared.shared.Cause.{Cause}
 use Rattle.rv_words.specs.declared.shared.Cause.TheVariants.{Limit, Stop, Full, Fault, Cut}
-use Rattle.rv_words.specs.declared.shared.Mode.{Mode}
-use Rattle.guest_pages.specs.Pages.{bytes_of, page_of}
-use Rattle.orders_law.specs.Orders.{below}
-use Rattle.order_rules.specs.Holders.{held}
 use Rattle.flat_machine.specs.State.{FlatState, flat_at_start}
 use Rattle.flat_machine.specs.declared.results.Step.{Step}
 use Rattle.replay_model.specs.Items.{Move, goes, told_of, verdict_on}
 use Rattle.replay_model.specs.State.{Replay}
-use Rattle.run_model.specs.Run.{Run, hold_of}
+use Rattle.run_model.specs.Run.{Run}
 use Rattle.run_model.specs.Agreement.{Agrees}
 use Rattle.run_model.specs.Legs.{Runs}
 use Rattle.turn_model.specs.Board.{Board, Order, Go, Hold, Rest, Supply, Terms, count}
@@ -32,7 +27,9 @@ use Rattle.turn_laws.proofs.MoreAnswers.{turn_carried}
 use Rattle.turn_laws.proofs.ReachedLists.{reached_extend}
 use Rattle.crew_parts.specs.Boards.{Plain, IsReached, the_board, the_machine, board_of, spent, state_of, terms_of, told_to}
 use Rattle.crew_parts.specs.Laws.{IsTurnOf}
-use Rattle.crew_parts.specs.Parts.{pages_in, until_by, with_bytes}
+use Rattle.run_model.specs.PagesHeld.{pages_in}
+use Rattle.run_model.proofs.PagesHeld.{pages_are}
+use Rattle.crew_parts.specs.Parts.{until_by}
 use Rattle.crew_parts.specs.Turns.{IsSpent}
 
 -- Runs that can be made are of the leg
@@ -115,39 +112,17 @@ reached_with p h n given c reached is none = by (is_fault p.closed) where
         (λ fault. absurd (running fault))),
   )
 
--- what a run has of pages
-pages_of : Run → List (Option (Mode × List ℕ))
-pages_of x = map (λ page. with_bytes (bytes_of x.frames page) (hold_of x page)) (below (length x.frames.pages))
-
-map_alike : {X Y : Type 0} (f g : X → Y) (xs : List X) → ((x : X) → f x ≡ g x) → map f xs ≡ map g xs
-map_alike f g [] same = refl
-map_alike f g (x ∷ xs) same = ap₂ (λ y ys. y ∷ ys) (same x) (map_alike f g xs same)
-
-held_bytes : (mode : Option Mode) (one other : List ℕ) → (IsSome mode → one ≡ other) → with_bytes one mode ≡ with_bytes other mode
-held_bytes None one other same = refl
-held_bytes (Some m) one other same = ap (λ bytes. with_bytes bytes (Some m)) (same refl)
-
-pages_are : (x : Run) (h : ℕ) (s : Replay FlatState) → Agrees x h s → x.frames.unit ≡ page_bytes → pages_in s h ≡ pages_of x
-unfolding pages_of
-pages_are x h s a unit =
-    map_alike (λ page. with_bytes (page_of page_bytes s.flat.memory page) (held s.holders page h))
-    (λ page. with_bytes (bytes_of x.frames page) (hold_of x page))
-    (below (length s.holders)) (λ page. ap (with_bytes (page_of page_bytes s.flat.memory page)) (a.modes page)
-    ∙ held_bytes (hold_of x page) (page_of page_bytes s.flat.memory page) (bytes_of x.frames page)
-    (λ some. ap (λ u. page_of u s.flat.memory page) (sym unit) ∙ a.bytes page some))
-    ∙ ap (λ k. map (λ page. with_bytes (bytes_of x.frames page) (hold_of x page)) (below k)) a.table
-
 -- two states with which one run agrees have the same of its hart
 pub record SameSeen (s t : Replay FlatState) (h : ℕ) : Type 0 where
   pub hart : slice_get t.flat.harts h ≡ slice_get s.flat.harts h
   pub count : slice_index t.flat.counts h ≡ slice_index s.flat.counts h
-  pub pages : pages_in t h ≡ pages_in s h
+  pub pages : pages_in page_bytes t h ≡ pages_in page_bytes s h
 
 pub same_seen : (x : Run) (h : ℕ) (s t : Replay FlatState) → x.frames.unit ≡ page_bytes → Agrees x h s → Agrees x h t → SameSeen s t h
 same_seen x h s t unit a c = record {
   hart = c.hart ∙ sym a.hart;
   count = get_or_from_slice_get t.flat.counts h x.count 0 c.count ∙ sym (get_or_from_slice_get s.flat.counts h x.count 0 a.count);
-  pages = pages_are x h t c unit ∙ sym (pages_are x h s a unit);
+  pages = pages_are page_bytes x h t c unit ∙ sym (pages_are page_bytes x h s a unit);
 }
 
 -- moves stay on the board, and each counts

@@ -26,6 +26,7 @@ use Rattle.crew_recording.specs.Recording.{with_ends}
 use Rattle.turn_model.specs.Recordable.{Recordable, board_machine}
 use Rattle.turn_model.specs.Board.{Board, Order, Go, Supply, Terms, log_with, log_of}
 use Rattle.turn_laws.specs.Reached.{Reached}
+use Rattle.run_model.specs.Numbers.{AreNumbered}
 
 -- the flat machine that is recorded: so many bytes are owned together as recordings' terms say
 abbrev pub the_board : Flat FlatState (List Step)
@@ -115,10 +116,6 @@ until_by count order = count
 
 abbrev pub until_of : Plain → ℕ → ℕ
 until_of p h = until_by (slice_index p.counts h) (told_to p h)
-
--- each hart has its number
-abbrev pub AreNumbered : FlatState → Type 0
-AreNumbered s = (h : ℕ) (x : Hart) → slice_get s.harts h ≡ Some x → x.csrs.hart ≡ h
 
 -- what holds of every board
 pub record IsBoardOf (p : Plain) : Type 0 where

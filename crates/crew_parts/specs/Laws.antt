@@ -6,6 +6,7 @@ use Rattle.elf_image.specs.Image.{Image, IsWhole}
 use Rattle.flat_machine.specs.State.{FlatState, flat_at_start}
 use Rattle.replay_model.specs.State.{IsCrewState}
 use Rattle.run_model.specs.Run.{Run}
+use Rattle.run_model.specs.Numbers.{AreNumbered}
 use Rattle.run_model.specs.Legs.{KeepsPages, MakesLeg}
 use Rattle.run_model.specs.declared.asked.Pause.{Pause}
 use Rattle.turn_model.specs.Board.{Board, Order, Supply, board_at_start}
@@ -13,7 +14,7 @@ use Rattle.turn_model.specs.Lists.{whole_leg}
 use Rattle.turn_model.specs.Turn.{turn}
 use Rattle.turn_laws.specs.Reached.{Reached}
 use Rattle.turn_laws.specs.Supplies.{followed_by}
-use Rattle.crew_parts.specs.Boards.{Plain, World, IsBoardOf, IsReached, AreNumbered, the_board, the_machine, board_of, plain_at_start, spent, state_of}
+use Rattle.crew_parts.specs.Boards.{Plain, World, IsBoardOf, IsReached, the_board, the_machine, board_of, plain_at_start, spent, state_of}
 use Rattle.crew_parts.specs.Boards.{terms_of, told_to}
 use Rattle.crew_parts.specs.Orders.{IsExact}
 use Rattle.crew_parts.specs.Parts.{IsPart, IsPartAdvanced, KeepsParts, number_of, part_of, until_of}

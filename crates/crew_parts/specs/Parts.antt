@@ -1,18 +1,17 @@
 -- What a hart has of the recorder's board (docs/recorder.md).
-use Rattle.std.specs.Prelude.{ℕ, ◌≡◌, ◌≤◌, List, [], map, length, slice_get, slice_index, Option, Some, None, unwrap_or}
+use Rattle.std.specs.Prelude.{ℕ, ◌≡◌, ◌≤◌, List, [], length, slice_get, slice_index, Option, Some, None, unwrap_or}
 use Rattle.rv_words.specs.Limits.{page_bytes}
 use Rattle.rv_words.specs.declared.shared.Mode.{Mode}
 use Rattle.rv_hart.specs.State.{Hart}
 use Rattle.elf_image.specs.Image.{Image}
-use Rattle.guest_pages.specs.Pages.{page_of}
 use Rattle.log_entry.specs.declared.log.Entry.{Entry}
-use Rattle.orders_law.specs.Orders.{below}
-use Rattle.order_rules.specs.Holders.{held}
 use Rattle.flat_machine.specs.State.{FlatState}
 use Rattle.replay_model.specs.State.{Replay}
 use Rattle.run_model.specs.Run.{Run}
+pub use Rattle.run_model.specs.Run.{number_of}
 use Rattle.run_model.specs.Agreement.{Agrees}
 use Rattle.run_model.specs.Legs.{Runs, DifferFor}
+use Rattle.run_model.specs.PagesHeld.{pages_in}
 pub use Rattle.crew_parts.specs.Boards.{until_by, until_of}
 use Rattle.crew_parts.specs.Boards.{Plain, World, the_board, state_of}
 
@@ -30,20 +29,11 @@ pub record Part : Type 0 where
   pub log_limit : ℕ
   pub first : World
 
--- what is held of a page, with its bytes
-abbrev pub with_bytes : List ℕ → Option Mode → Option (Mode × List ℕ)
-with_bytes bytes None = None
-with_bytes bytes (Some mode) = Some (mode, bytes)
-
--- of each page what a hart holds, and then the memory's bytes
-abbrev pub pages_in : Replay FlatState → ℕ → List (Option (Mode × List ℕ))
-pages_in s h = map (λ page. with_bytes (page_of page_bytes s.flat.memory page) (held s.holders page h)) (below (length s.holders))
-
 abbrev pub part_in : Plain → Replay FlatState → ℕ → Part
 part_in p s h = record {
   hart = slice_get s.flat.harts h;
   count = slice_index s.flat.counts h;
-  pages = pages_in s h;
+  pages = pages_in page_bytes s h;
   entries = unwrap_or (slice_get p.streams h) [];
   until = until_of p h;
   image = p.image;
@@ -77,10 +67,6 @@ pub record IsLed (run : Run) (h n : ℕ) (s : Replay FlatState) : Type 0 where
 pub record IsPartAdvanced (p : Plain) (h n : ℕ) (r : Run) : Type 0 where
   pub led : IsLed r h n (state_of p)
   pub within : r.count ≤ until_of p h
-
--- the number of a run's hart
-abbrev pub number_of : Run → ℕ
-number_of r = r.hart.csrs.hart
 
 -- the run is its hart's part of the board, advanced
 abbrev pub IsPartMoved : Plain → Run → Type 0

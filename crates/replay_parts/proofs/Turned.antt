@@ -1,7 +1,7 @@
 -- What a turn leads to, and what it leaves.
 use Rattle.std.proofs.Common.{◌≡◌, ◌≢◌, inl, inr, ℕ, ◌<◌, ◌≤◌, ◌++◌, List, [], ◌∷◌, map, length, Option, Some, None}
 use Rattle.std.proofs.Common.{slice_get, slice_set, slice_index, refl, sym, ap, ap₂, ◌∙◌, subst, arith}
-use Rattle.std.specs.Prelude.{IsSome, slice_index_or}
+use Rattle.std.specs.Prelude.{slice_index_or}
 use Rattle.std.proofs.lemmas.Bool.{cases_eq}
 use Rattle.std.proofs.lemmas.List.{ext_get_or, length-set}
 use Rattle.std.proofs.lemmas.Option.{get_or_from_slice_get, slice_get-get_or}
@@ -9,19 +9,17 @@ use Rattle.elf_image.specs.Image.{Image}
 use Rattle.rv_words.specs.declared.shared.Mode.{Mode}
 use Rattle.rv_hart.specs.State.{Hart}
 use Rattle.rv_hart.specs.Moves.{hart_at_start}
-use Rattle.guest_pages.specs.Pages.{bytes_of, page_of}
 use Rattle.log_entry.specs.declared.log.Log.{Log}
 use Rattle.log_entry.specs.Parts.{unit_of}
-use Rattle.orders_law.specs.Orders.{Leads, below}
+use Rattle.orders_law.specs.Orders.{Leads}
 use Rattle.orders_law.proofs.Leads.{leads_on}
 use Rattle.order_rules.specs.Places.{entry_at}
-use Rattle.order_rules.specs.Holders.{held}
 use Rattle.flat_machine.specs.State.{FlatState}
 use Rattle.flat_machine.specs.declared.results.Step.{Step}
 use Rattle.replay_model.specs.Board.{board}
 use Rattle.replay_model.specs.State.{Replay}
 use Rattle.replay_model.specs.Items.{step}
-use Rattle.run_model.specs.Run.{Run, hold_of}
+use Rattle.run_model.specs.Run.{Run}
 use Rattle.run_model.specs.Agreement.{Agrees}
 use Rattle.run_model.specs.Legs.{Runs}
 use Rattle.shared_types.proofs.Lists.{set_here, set_there}
@@ -30,7 +28,9 @@ use Rattle.replay_law.proofs.Progress.{Going, going_first, going_lasts}
 use Rattle.replay_law.proofs.Views.{shape_of, view, view_agrees}
 use Rattle.replay_parts.specs.Boards.{Plain, state_of}
 use Rattle.replay_parts.specs.Laws.{PartsStay, Reaches, RunsGoOn, TurnsReach}
-use Rattle.replay_parts.specs.Parts.{Part, pages_in, part_in, until_by, until_in, with_bytes}
+use Rattle.run_model.specs.PagesHeld.{pages_in}
+use Rattle.run_model.proofs.PagesHeld.{pages_are}
+use Rattle.replay_parts.specs.Parts.{Part, part_in, until_by, until_in}
 use Rattle.replay_parts.specs.Turns.{IsTurn, Told, committed}
 use Rattle.replay_parts.proofs.Led.{Led, led_by_entries, led_by_runs}
 use Rattle.replay_parts.proofs.Within.{count_in, place_of, states_are}
@@ -117,27 +117,6 @@ module _ (old new : Plain) (s : Replay FlatState) (h n : ℕ) (told : Told) (r :
 
 pub turns_reach : TurnsReach
 turns_reach old new s h n told r inside turn = turned old new s h n told r inside turn
-
--- what a run has of pages
-pages_by : Run → List (Option (Mode × List ℕ))
-pages_by x = map (λ page. with_bytes (bytes_of x.frames page) (hold_of x page)) (below (length x.frames.pages))
-
-map_alike : {X Y : Type 0} (f g : X → Y) (xs : List X) → ((x : X) → f x ≡ g x) → map f xs ≡ map g xs
-map_alike f g [] same = refl
-map_alike f g (x ∷ xs) same = ap₂ (λ y ys. y ∷ ys) (same x) (map_alike f g xs same)
-
-held_bytes : (mode : Option Mode) (one other : List ℕ) → (IsSome mode → one ≡ other) → with_bytes one mode ≡ with_bytes other mode
-held_bytes None one other same = refl
-held_bytes (Some m) one other same = ap (λ bytes. with_bytes bytes (Some m)) (same refl)
-
-pages_are : (unit : ℕ) (x : Run) (h : ℕ) (s : Replay FlatState) → Agrees x h s → x.frames.unit ≡ unit → pages_in unit s h ≡ pages_by x
-unfolding pages_by
-pages_are unit x h s a same =
-    map_alike (λ page. with_bytes (page_of unit s.flat.memory page) (held s.holders page h)) (λ page. with_bytes (bytes_of x.frames page) (hold_of x page))
-    (below (length s.holders)) (λ page. ap (with_bytes (page_of unit s.flat.memory page)) (a.modes page)
-    ∙ held_bytes (hold_of x page) (page_of unit s.flat.memory page) (bytes_of x.frames page)
-    (λ some. ap (λ u. page_of u s.flat.memory page) (sym same) ∙ a.bytes page some))
-    ∙ ap (λ k. map (λ page. with_bytes (bytes_of x.frames page) (hold_of x page)) (below k)) a.table
 
 abbrev part_in_at : Plain → ℕ → Replay FlatState → Part
 part_in_at p g s = part_in p s g

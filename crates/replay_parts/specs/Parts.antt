@@ -1,21 +1,19 @@
 -- What a hart has of a replay's board (docs/replay.md).
-use Rattle.std.specs.Prelude.{ℕ, ◌≡◌, ◌≤◌, List, map, length, slice_get, slice_index, Option, Some, None}
+use Rattle.std.specs.Prelude.{ℕ, ◌≡◌, ◌≤◌, List, slice_get, slice_index, Option, Some, None}
 use Rattle.rv_words.specs.declared.shared.Mode.{Mode}
 use Rattle.rv_hart.specs.State.{Hart}
 use Rattle.elf_image.specs.Image.{Image}
-use Rattle.guest_pages.specs.Pages.{page_of}
 use Rattle.log_entry.specs.declared.log.Entry.{Entry}
 use Rattle.log_entry.specs.declared.log.Log.{Log}
 use Rattle.log_entry.specs.Parts.{count_of, unit_of}
-use Rattle.orders_law.specs.Orders.{below}
 use Rattle.order_rules.specs.Cursor.{first_left}
-use Rattle.order_rules.specs.Holders.{held}
 use Rattle.flat_machine.specs.State.{FlatState}
 use Rattle.replay_model.specs.Board.{board}
 use Rattle.replay_model.specs.State.{Replay}
 use Rattle.run_model.specs.Run.{Run}
 use Rattle.run_model.specs.Agreement.{Agrees}
 use Rattle.run_model.specs.Legs.{Runs, DifferFor}
+use Rattle.run_model.specs.PagesHeld.{pages_in}
 use Rattle.replay_parts.specs.Boards.{Plain, state_of}
 
 -- its state and count; of each page what it holds, and then the memory's bytes; its place in its stream, and the count of the entry there, up
@@ -36,14 +34,6 @@ until_by count (Some e) = count_of e
 
 abbrev pub until_in : Log → Replay FlatState → ℕ → ℕ
 until_in log s h = until_by (slice_index s.flat.counts h) (first_left log s.cursor h)
-
--- what is held of a page, with its bytes
-abbrev pub with_bytes : List ℕ → Option Mode → Option (Mode × List ℕ)
-with_bytes bytes None = None
-with_bytes bytes (Some mode) = Some (mode, bytes)
-
-abbrev pub pages_in : ℕ → Replay FlatState → ℕ → List (Option (Mode × List ℕ))
-pages_in unit s h = map (λ page. with_bytes (page_of unit s.flat.memory page) (held s.holders page h)) (below (length s.holders))
 
 abbrev pub part_in : Plain → Replay FlatState → ℕ → Part
 part_in p s h = record {

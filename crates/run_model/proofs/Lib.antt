@@ -8,3 +8,5 @@ mod Legs
 mod Handover
 mod Start
 pub mod Laws
+pub mod Numbers
+pub mod PagesHeld

@@ -2,3 +2,5 @@ pub mod Run
 pub mod Agreement
 pub mod Legs
 pub mod Laws
+pub mod Numbers
+pub mod PagesHeld

@@ -1,26 +1,28 @@
 -- Each hart of a flat machine has its number in mhartid, whatever acts were made.
 use Rattle.std.proofs.Common.{◌≡◌, ℕ, ◌||◌, Bool, true, false, List, [], ◌∷◌, map, Some, None, slice_get, slice_set, nat_lt, is_some}
-use Rattle.std.proofs.Common.{unwrap_or, cond, refl, sym, ap, ◌∙◌, subst, inl, inr, if◌then◌else◌}
-use Rattle.std.specs.List.{find}
+use Rattle.std.proofs.Common.{unwrap_or, cond, refl, sym, ap, ◌∙◌, subst, inl, inr, if◌then◌else◌, ◌<◌, length, arith, zero-add}
+use Rattle.std.specs.List.{find, range_with_len}
 use Rattle.std.specs.Option.{option_map}
-use Rattle.std.proofs.lemmas.Option.{same_Some, slice_get_within}
+use Rattle.std.proofs.lemmas.List.FromFn.{length-range_with_len, get_or-range_with_len}
+use Rattle.std.proofs.lemmas.Option.{get_or_from_slice_get, same_Some, slice_get_within}
 use Rattle.std.proofs.lemmas.Bool.Decides.{eqb_tells}
 use Rattle.shared_types.proofs.Lists.{bound_to, chosen, get_map, map_at, mapped, set_here, set_there, unless}
 use Rattle.rv_csr.specs.State.{Csrs}
 use Rattle.rv_csr.specs.Registers.{Register, has_number, is_read_only, register, registers, csr_written}
 use Rattle.rv_hart.specs.State.{Hart}
-use Rattle.rv_hart.specs.Moves.{after, need_of}
+use Rattle.rv_hart.specs.Moves.{after, hart_at_start, need_of}
 use Rattle.rv_hart.specs.declared.effect.Effect.{Effect}
 use Rattle.rv_hart.specs.declared.effect.Effect.TheVariants.{Sets, Jumps, Loads, Stores, Reserves, Commits, Fails, Updates, DeviceLoads, DeviceStores}
 use Rattle.rv_hart.specs.declared.effect.Effect.TheVariants.{WritesCsr, Returns, Traps}
 use Rattle.rv_hart.specs.declared.effect.Wrote.{Wrote}
 use Rattle.rv_hart.specs.declared.effect.Wrote.TheVariants as wrote
-use Rattle.flat_machine.specs.State.{FlatState}
+use Rattle.elf_image.specs.Image.{Image}
+use Rattle.flat_machine.specs.State.{FlatState, flat_at_start}
 use Rattle.flat_machine.specs.Moves.{next_move, access_of, lost_by, writes_in}
 use Rattle.flat_machine.specs.Acts.{next, ran, accessed, touch_made, poll_made, lost}
 use Rattle.flat_machine.specs.declared.act.Act.{Act}
 use Rattle.flat_machine.specs.declared.act.Act.TheVariants.{Run, Touch, Poll, Lose}
-use Rattle.crew_parts.specs.Boards.{AreNumbered}
+use Rattle.run_model.specs.Numbers.{AreNumbered}
 
 abbrev Leaves : Register → Type 0
 Leaves r = (v : ℕ) (s : Csrs) → (r.write v s).hart ≡ s.hart
@@ -138,3 +140,11 @@ numbers_kept s t (Poll h time) all is =
 numbers_kept s t (Lose h) all is =
     let x = mapped (lost s h) (slice_get s.harts h) t is in
     subst (λ (u : FlatState). Numbers u.harts) x.2 (set_number s.harts h x.0 _ x.1 all refl)
+
+-- and each has it at the start
+pub numbered_first : (image : Image) (harts : ℕ) → AreNumbered (flat_at_start image harts)
+numbered_first image harts h x is =
+    let m = map_at (λ id. hart_at_start id harts image.pages image.entry) (range_with_len 0 harts) h x is in
+    let l : h < harts = (let w = slice_get_within (range_with_len 0 harts) h m.0 m.1 in let n = length-range_with_len 0 harts in omega (arith, w, n)) in
+    ap (λ (z : Hart). z.csrs.hart) (sym m.2) ∙ sym (get_or_from_slice_get (range_with_len 0 harts) h m.0 0 m.1) ∙ get_or-range_with_len 0 harts h 0 l
+    ∙ zero-add h
