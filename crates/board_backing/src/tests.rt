@@ -5,7 +5,7 @@ ghost use Rattle.run_model.specs.Run.{ahead_of};
 ghost use Rattle.run_model.specs.declared.asked.Ahead.TheVariants.{AtDevice};
 ghost use Rattle.board_backing.specs.Backing.{IsDesk};
 
-use crate::{Backing, Polled};
+use crate::{Backing, Polled, first_runs, number_of};
 use elf_image::{Image, read_image};
 use hart_run::{Ahead, HartRun, Pause};
 use outside::{Asked, MemConsole};
@@ -173,4 +173,15 @@ fn a_written_page_goes_back_to_the_store(rt: HostRuntime) {
     assert_eq!(rt; page.load(4), 7);
     assert!(rt; !desk.yield_all(&rt, 0));
     assert_eq!(rt; desk.advance(&rt, 20), Pause::Wants(0, Mode::Read));
+}
+
+#[test]
+fn each_hart_has_a_run_with_its_number(rt: HostRuntime) {
+    let alloc = rt.alloc();
+    let image = image(&rt, alloc, &[0x1050_0073], 1);
+    let runs = first_runs(alloc, &image, 3).expect(&rt, "memory");
+    assert!(rt; runs.len() == 3);
+    assert!(rt; runs[2].hart().csr(0xf14) == Some(2));
+    let last = HartRun::start(alloc, 2, 3, &image).expect(&rt, "memory");
+    assert!(rt; number_of(&last) == 2);
 }

@@ -30,11 +30,6 @@ use Rattle.crew_core.specs.Standing.{Stands, terms_of}
 use Rattle.crew_core.proofs.BoardTurns.{counts_are}
 use Rattle.orders_law.proofs.Below.{length_below}
 
-pub mapped_more : {X : Type 0} (f : ℕ → X) (n : ℕ) (xs : List X) (x : X) → xs ≡ map f (below n) → x ≡ f n → xs ++ x ∷ [] ≡ map f (below (n + 1))
-mapped_more f n xs x is here =
-    let more : suc n ≡ n + 1 = omega arith in
-    ap₂ (λ ys y. ys ++ y ∷ []) is here ∙ sym (map-append f (below n) (n ∷ [])) ∙ ap (λ k. map f (below k)) more
-
 at_last : (xs : List ℕ) (v i k : ℕ) → slice_get (xs ++ v ∷ []) i ≡ Some k → (slice_get xs i ≡ Some k) ⊎ ((i ≡ length xs) × (k ≡ v))
 at_last [] v zero k is = inr (refl, sym (same_Some _ _ is))
 at_last [] v (suc i) k is = absurd (none-some _ is)

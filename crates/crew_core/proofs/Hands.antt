@@ -31,7 +31,7 @@ prepared_part p q h r is part =
     subst (λ (z : Plain). IsPart z h r) (sym is) (subst (Agrees r h) (sym (same_state p p.favoured p.closed p.abandoned true)) part)
 
 -- the count of a part's run
-counted : (p : Plain) (h : ℕ) (r : Run) → IsBoardOf p → IsPart p h r → slice_index p.counts h ≡ r.count
+pub counted : (p : Plain) (h : ℕ) (r : Run) → IsBoardOf p → IsPart p h r → slice_index p.counts h ≡ r.count
 counted p h r holds part = ap (λ ks. slice_index ks h) holds.counts ∙ get_or_from_slice_get (state_of p).flat.counts h r.count 0 part.count
 
 -- it may move up to no less than there

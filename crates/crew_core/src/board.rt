@@ -15,6 +15,7 @@ use crate::crew::Crew;
 use crate::order::Order;
 use crate::room::{fill, take_two};
 use crate::row_list::Rows;
+use board_backing::{first_runs, number_of};
 use elf_image::Image;
 use flat_machine::Final;
 use hart_run::HartRun;
@@ -80,34 +81,6 @@ impl<C: Console, K: Clock> Model for Board<C, K> {
     ghost invariant = { λ b. Keeps b.crew b.spare.items b.journal b.turns (plain_of b.crew b.journal.rows b.turns.rows b.image.value
         (world (C.seen b.first_console.value) (K.seen b.first_clock.value)) (world (C.seen b.console) (K.seen b.clock))
         b.abandoned b.prepared) };
-}
-
-/// The number of a run's hart.
-fn number_of(run: &HartRun) -> u8
-    requires { number_of run.now < MAX_HARTS }
-    ensures { result ≡ number_of run.now }
-{
-    match run.hart().csr(0xf14) {
-        Some(number) => number as u8,
-        None => 0,
-    }
-}
-
-/// A run for each hart, at its start.
-#[tactic(auto, using(crate::proofs::BoardStarts::mapped_more))]
-fn first_runs(alloc: Global, image: &Image, harts: u8) -> Result<Vec<HartRun>, NoMemory>
-    ensures { IfOk result (λ v. v.items ≡ map (λ h. run_at_start h harts image.now) (below harts)) }
-{
-    let Ok(mut runs) = Vec::with_capacity(alloc, usize::from(harts)) else {
-        return Err(NoMemory);
-    };
-    for hart in 0..harts {
-        let run = HartRun::start(alloc, hart, harts, image)?;
-        let Ok(()) = runs.push(run) else {
-            return Err(NoMemory);
-        };
-    }
-    Ok(runs)
 }
 
 /// The crew of a board before any turn, and a run for each hart.

@@ -24,6 +24,7 @@ use Rattle.crew_parts.specs.Laws.{IsTurnOf}
 use Rattle.crew_parts.specs.Parts.{AreParts, IsPart, IsPartAdvanced, IsPartMoved, Part, number_of, until_by, until_of}
 use Rattle.crew_parts.specs.Turns.{HasTurn}
 use Rattle.crew_parts.proofs.Laws.{parts_are_numbered, parts_have_unit}
+use Rattle.crew_core.proofs.Hands.{counted}
 use Rattle.crew_core.specs.declared.order.Order.{Order}
 use Rattle.crew_core.specs.Orders.{told, told_of}
 use Rattle.recorded_turns.proofs.Advanced.{others_stay_advanced, others_stay_told, parts_are_advanced, rows_advance, turns_leave_parts}
@@ -158,10 +159,6 @@ not_told p h most r after none is same =
 pub part_of_still : (p : Plain) (h : ℕ) (r : Run) → IsPartAdvanced p h 0 r → IsPart p h r
 part_of_still p h r is = subst (Agrees r h) (sym is.led.runs) is.led.agrees
 
-pub count_of_still : (p : Plain) (h : ℕ) (r : Run) → IsBoardOf p → IsPart p h r → slice_index p.counts h ≡ r.count
-count_of_still p h r holds part =
-    ap (λ ks. slice_index ks h) holds.counts ∙ get_or_from_slice_get (state_of p).flat.counts h r.count 0 part.count
-
 -- the run of a hart goes on by a row of a list
 row_advances : (p : Plain) (h most : ℕ) (r after : Run) (order : Option model.Order) → IsBoardOf p → h < p.harts → IsPartAdvanced p h 0 r
     → told_to p h ≡ order → Advances r after order most → IsPartAdvanced p h (min most (leg_in p h)) after
@@ -176,14 +173,14 @@ row_advances p h most r after (Some (Go until)) holds inside is is_told went =
     let unit = parts_have_unit p h r holds.whole holds.reached inside part in
     let leg = went.2 h (state_of p) (subst (λ u. IsCrewState (board u) (state_of p)) (sym unit) holds.crew) part in
     rows_advance p h until most r after went.0 holds.whole holds.reached holds.counts is_told part went.1
-    (subst (λ n. MakesLeg page_bytes after went.0 h (min until (n + most)) (state_of p)) (sym (count_of_still p h r holds part))
+    (subst (λ n. MakesLeg page_bytes after went.0 h (min until (n + most)) (state_of p)) (sym (counted p h r holds part))
     (subst (λ u. MakesLeg u after went.0 h (min until (r.count + most)) (state_of p)) unit leg))
 
 -- as far as it was told
 pub may_go : (p : Plain) (h : ℕ) (r : Run) (order : Option Order) → IsBoardOf p → IsPartAdvanced p h 0 r → told_to p h ≡ told_of order
     → r.count ≤ until_by r.count (told_of order)
 may_go p h r order holds is is_told =
-    subst (λ n. r.count ≤ n) (ap₂ until_by (count_of_still p h r holds (part_of_still p h r is)) is_told) is.within
+    subst (λ n. r.count ≤ n) (ap₂ until_by (counted p h r holds (part_of_still p h r is)) is_told) is.within
 
 pub manned_row : (p : Plain) (runs : List Run) (orders : List (Option Order)) (h most : ℕ) (r after : Run) (order : Option Order)
     → IsBoardOf p → h < p.harts → slice_get runs h ≡ Some r → slice_get orders h ≡ Some order → IsManned p runs orders still
@@ -216,7 +213,7 @@ manned_start p image harts limit log_limit n world runs is holds parts few = rec
   each = λ h r at.
       let part = parts.each h r at in
       let less : h < p.harts = (let l = slice_get_within runs h r at in let k = parts.number in omega (arith, l, k)) in
-      parts_are_advanced p h r holds.counts (subst (λ k. k ≤ until_of p h) (count_of_still p h r holds part) (holds.ahead h less)) part;
+      parts_are_advanced p h r holds.counts (subst (λ k. k ≤ until_of p h) (counted p h r holds part) (holds.ahead h less)) part;
   told = λ h o at less.
       ap (λ os. unwrap_or (slice_get os h) None) (ap (λ (z : Plain). z.orders) is)
       ∙ ap (λ o. unwrap_or o None) (get_replicate harts h None (let k = ap (λ (z : Plain). z.harts) is in omega (arith, less, k)))

@@ -21,6 +21,7 @@ use Rattle.run_model.specs.declared.asked.Ahead.{Ahead}
 use Rattle.board_backing.specs.declared.backing.Backing.{Backing}
 use Rattle.board_backing.specs.Backing as backings
 use Rattle.board_backing.specs.Backing.{Backs}
+use Rattle.board_backing.proofs.Backs.{one_unit}
 use Rattle.replay_law.specs.Laws.{first_replay}
 use Rattle.replay_law.proofs.Timely.{Timely, timely}
 use Rattle.replay_law.proofs.Views.{shape_of}
@@ -34,16 +35,10 @@ use Rattle.orders_law.proofs.Leads.{leads_on}
 pub reached : (image : Image) (b : ReplayBoard) (s : Replay FlatState) → (st : Stands image b s) → Timely b.log image st.replayable s
 reached image b s st = timely b.log image st.replayable s st.obeys.0 st.obeys.2
 
-same_factor : (n u v : ℕ) → suc n * u ≡ suc n * v → u ≡ v
-same_factor n u v e =
-    let some : zero < suc n = omega arith in
-    sym (mul-div_cancel_left u some) ∙ ap (λ k. k / suc n) e ∙ mul-div_cancel_left v some
-
--- a page has as many bytes as the log says, where so many of them are the memory
-one_unit : (log : Log) (n size u : ℕ) → 1 ≤ log.pages → n ≡ units_of log → size ≡ n * u → size ≡ page_bytes * log.pages → u ≡ unit_of log
-one_unit log zero size u some n_is sized whole = absurd (omega (arith, some, n_is))
-one_unit log (suc n) size u some n_is sized whole =
-    same_factor n u (unit_of log) (sym sized ∙ whole ∙ sym (shape_of log).whole ∙ ap (λ k. k * unit_of log) (sym n_is))
+log_unit : (log : Log) (n size u : ℕ) → 1 ≤ log.pages → n ≡ units_of log → size ≡ n * u → size ≡ page_bytes * log.pages → u ≡ unit_of log
+log_unit log zero size u some n_is sized whole = absurd (omega (arith, some, n_is))
+log_unit log (suc n) size u some n_is sized whole =
+    one_unit n u (unit_of log) (sym sized ∙ whole ∙ sym (shape_of log).whole ∙ ap (λ k. k * unit_of log) (sym n_is))
 
 some_page : (image : Image) (b : ReplayBoard) (s : Replay FlatState) → Stands image b s → 1 ≤ b.log.pages
 some_page image b s st = let l = st.replayable.whole.least_pages in let p = st.replayable.pages in omega (arith, l, p)
@@ -51,13 +46,13 @@ some_page image b s st = let l = st.replayable.whole.least_pages in let p = st.r
 pub store_unit : (image : Image) (b : ReplayBoard) (s : Replay FlatState) → Stands image b s → b.backing.pages.unit ≡ unit_of b.log
 store_unit image b s st =
     let sound = (reached image b s st).going.good.sound in
-    one_unit b.log (length b.backing.pages.pages) (length s.flat.memory) b.backing.pages.unit (some_page image b s st) (st.backs.number ∙ sound.table)
+    log_unit b.log (length b.backing.pages.pages) (length s.flat.memory) b.backing.pages.unit (some_page image b s st) (st.backs.number ∙ sound.table)
     st.backs.memory sound.sized.memory_size
 
 pub run_unit : (image : Image) (b : ReplayBoard) (r : Run) (h : ℕ) (s : Replay FlatState) → Stands image b s → Agrees r h s → r.frames.unit ≡ unit_of b.log
 run_unit image b r h s st a =
     let sound = (reached image b s st).going.good.sound in
-    one_unit b.log (length r.frames.pages) (length s.flat.memory) r.frames.unit (some_page image b s st) (sym a.table ∙ sound.table)
+    log_unit b.log (length r.frames.pages) (length s.flat.memory) r.frames.unit (some_page image b s st) (sym a.table ∙ sound.table)
     a.memory sound.sized.memory_size
 
 -- what is ahead of a run, by the log's unit

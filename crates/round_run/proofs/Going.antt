@@ -20,7 +20,8 @@ use Rattle.crew_core.specs.declared.order.Order.{Order}
 use Rattle.crew_core.specs.Orders.{told_of}
 use Rattle.recorded_turns.proofs.Advanced.{legs_advance}
 use Rattle.recorder.specs.Manned.{IsManned, leg_in, still}
-use Rattle.recorder.proofs.Manning.{count_of_still, may_go, order_there, part_of_still}
+use Rattle.crew_core.proofs.Hands.{counted}
+use Rattle.recorder.proofs.Manning.{may_go, order_there, part_of_still}
 use Rattle.round_run.specs.Legs.{Goes, HaveGone, HaveStood, IsReady, MayGo}
 
 -- a run that was not told to go on has no leg
@@ -73,7 +74,7 @@ pub all_stood : (p : Plain) (runs : List Run) (orders : List (Option Order)) (st
     → ((h : ℕ) (r : Run) → slice_get runs h ≡ Some r → slice_index stood h ≡ r.count) → HaveStood p stood
 all_stood p runs orders stood holds is at h less =
     let r = found_at runs h (let n = is.number in omega (arith, n, less)) in
-    at h r.0 r.1 ∙ sym (count_of_still p h r.0 holds (part_of_still p h r.0 (is.each h r.0 r.1)))
+    at h r.0 r.1 ∙ sym (counted p h r.0 holds (part_of_still p h r.0 (is.each h r.0 r.1)))
 
 -- counts, as far as they are told
 pub record CountsTo (runs : List Run) (counts : List ℕ) (i : ℕ) : Type 0 where

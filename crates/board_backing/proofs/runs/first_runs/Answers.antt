@@ -1,7 +1,7 @@
 use Rattle.std.proofs.Common.{◌∙◌}
 use Rattle.run_model.specs.Run.{run_at_start}
-use Rattle.crew_core.proofs.BoardStarts.{mapped_more}
-use Rattle.crew_core.proofs.board.first_runs.Goals as goal
+use Rattle.board_backing.proofs.FirstRuns.{mapped_more}
+use Rattle.board_backing.proofs.runs.first_runs.Goals as goal
 
 pub loop-hart-preserved : goal.loop-hart-preserved
 loop-hart-preserved c =
