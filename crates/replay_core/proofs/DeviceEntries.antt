@@ -33,7 +33,7 @@ use Rattle.board_backing.specs.Backing as backings
 use Rattle.board_backing.proofs.Touches.{suits_is}
 use Rattle.replay_law.proofs.Verdicts.{judge}
 use Rattle.replay_law.proofs.Times.{not_before}
-use Rattle.replay_core.specs.declared.board.ReplayBoard.{ReplayBoard}
+use Rattle.replay_core.specs.declared.position.Position.{Position}
 use Rattle.replay_core.specs.declared.went.Next.TheVariants as nexts
 use Rattle.replay_core.specs.declared.went.Went.TheVariants as went
 use Rattle.replay_core.specs.Items.{IsNext}
@@ -43,11 +43,11 @@ use Rattle.replay_core.proofs.MovesMade.{hart_there}
 use Rattle.replay_core.proofs.EntriesMade.{due_at}
 use Rattle.replay_core.proofs.BytesSent.{one_sent}
 
-pub device_hart : (image : Image) (b : ReplayBoard) (r : Run) (h : ℕ) (s : Replay FlatState) → Stands image b s → Agrees r h s
+pub device_hart : (image : Image) (b : Position) (r : Run) (h : ℕ) (s : Replay FlatState) → Stands image b s → Agrees r h s
     → h < b.backing.devices.devices.harts
 device_hart image b r h s st a = let l = hart_there image b r h s st a in let k = st.roomy.harts in omega (arith, l, k)
 
-roomy_by : (old new : ReplayBoard) → new.log ≡ old.log → new.backing.devices.devices.harts ≡ old.backing.devices.devices.harts
+roomy_by : (old new : Position) → new.log ≡ old.log → new.backing.devices.devices.harts ≡ old.backing.devices.devices.harts
     → RoomIsKept old.backing.devices new.backing.devices → length new.backing.devices.devices.sent ≤ new.cursor.ordinal → IsRoomy old → IsRoomy new
 roomy_by old new log harts kept sent roomy = record {
   harts = harts ∙ roomy.harts ∙ ap (λ (l : Log). length l.streams) (sym log);
@@ -67,7 +67,7 @@ poll_verdict u s h count ord time bits a b guard lines stop =
     ∙ ap₂ (λ x y. judge (board u) ((5, not x) ∷ (6, y) ∷ [])) lines stop
 
 -- a Poll with other lines
-pub poll_off : (image : Image) (b : ReplayBoard) (r : Run) (h time bits : ℕ) (s : Replay FlatState) → Stands image b s → Agrees r h s
+pub poll_off : (image : Image) (b : Position) (r : Run) (h time bits : ℕ) (s : Replay FlatState) → Stands image b s → Agrees r h s
     → IsNext b.cursor (item_of b r h) (nexts.Poll time bits) → lines_at b.backing.devices.devices h time ≢ bits → Goes image b r b.log h s (went.Diverged 5)
 poll_off image b r h time bits s st a next other =
     let due = due_at image b r h (entries.Poll next.0 next.1.0 time bits) s st a next.1.1 in
@@ -75,11 +75,11 @@ poll_off image b r h time bits s st a next other =
     (poll_verdict (unit_of b.log) s h next.0 next.1.0 time bits false (is_some s.flat.devices.stop) due.guard
     (ap (λ (d : Devices). lines_at d h time == bits) (sym st.backs.devices_are) ∙ ne_eqb _ bits other) refl) refl refl
 
-stop_is : (image : Image) (b : ReplayBoard) (s : Replay FlatState) (x : Bool) → Stands image b s → is_some b.backing.devices.devices.stop ≡ x
+stop_is : (image : Image) (b : Position) (s : Replay FlatState) (x : Bool) → Stands image b s → is_some b.backing.devices.devices.stop ≡ x
     → is_some s.flat.devices.stop ≡ x
 stop_is image b s x st is = ap (λ (d : Devices). is_some d.stop) (sym st.backs.devices_are) ∙ is
 
-pub poll_stopped : (image : Image) (b : ReplayBoard) (r : Run) (h time bits : ℕ) (s : Replay FlatState) → Stands image b s → Agrees r h s
+pub poll_stopped : (image : Image) (b : Position) (r : Run) (h time bits : ℕ) (s : Replay FlatState) → Stands image b s → Agrees r h s
     → IsNext b.cursor (item_of b r h) (nexts.Poll time bits) → lines_at b.backing.devices.devices h time ≡ bits
     → is_some b.backing.devices.devices.stop ≡ true → Goes image b r b.log h s (went.Diverged 6)
 poll_stopped image b r h time bits s st a next same stop =
@@ -91,7 +91,7 @@ poll_stopped image b r h time bits s st a next same stop =
 later_time : (m t n : ℕ) → m ≤ t → n ≡ max m t → n ≡ t
 later_time m t n l is = omega (arith, l, is)
 
-pub poll_goes : (image : Image) (old new : ReplayBoard) (backing : Backing) (r then_r : Run) (h time bits : ℕ) (polled : Polled) (s : Replay FlatState)
+pub poll_goes : (image : Image) (old new : Position) (backing : Backing) (r then_r : Run) (h time bits : ℕ) (polled : Polled) (s : Replay FlatState)
     → Stands image old s → Agrees r h s → IsNext old.cursor (item_of old r h) (nexts.Poll time bits)
     → lines_at old.backing.devices.devices h time ≡ bits → is_some old.backing.devices.devices.stop ≡ false
     → polled.time ≡ max old.backing.devices.devices.mtime time → polled.bits ≡ lines_at old.backing.devices.devices h polled.time
@@ -139,11 +139,11 @@ access_verdict u s h count ord access input x y guard asks suits stop =
     ((1, is_some w) ∷ (3, not (is_some o)) ∷ (4, not ((board u).suits s.flat h input)) ∷ (6, (board u).is_stopped s.flat) ∷ [])) asks.0 asks.1
     ∙ ap₂ (λ p q. judge (board u) ((4, not p) ∷ (6, q) ∷ [])) suits stop
 
-at_device : (image : Image) (b : ReplayBoard) (r : Run) (h : ℕ) (access : Access) (s : Replay FlatState) → Stands image b s → Agrees r h s
+at_device : (image : Image) (b : Position) (r : Run) (h : ℕ) (access : Access) (s : Replay FlatState) → Stands image b s → Agrees r h s
     → ahead_of r ≡ ahead.AtDevice access → IsAhead (unit_of b.log) h s (ahead.AtDevice access)
 at_device image b r h access s st a is = subst (IsAhead (unit_of b.log) h s) is (ahead_is image b r h s (ahead_of r) st a (ahead_agrees r h s a))
 
-pub access_off : (image : Image) (b : ReplayBoard) (r : Run) (h : ℕ) (access : Access) (input : Input) (s : Replay FlatState) → Stands image b s
+pub access_off : (image : Image) (b : Position) (r : Run) (h : ℕ) (access : Access) (input : Input) (s : Replay FlatState) → Stands image b s
     → Agrees r h s → IsNext b.cursor (item_of b r h) (nexts.Touch input) → ahead_of r ≡ ahead.AtDevice access
     → is_some (touched b.backing.devices.devices access input) ≡ false → Goes image b r b.log h s (went.Diverged 4)
 access_off image b r h access input s st a next is off =
@@ -152,7 +152,7 @@ access_off image b r h access input s st a next is off =
     (access_verdict (unit_of b.log) s h next.0 next.1.0 access input false (is_some s.flat.devices.stop) due.guard (at_device image b r h access s st a is)
     (sym (suits_is b.backing r h access input is s st.backs a) ∙ off) refl) refl refl
 
-pub access_stopped : (image : Image) (b : ReplayBoard) (r : Run) (h : ℕ) (access : Access) (input : Input) (s : Replay FlatState) → Stands image b s
+pub access_stopped : (image : Image) (b : Position) (r : Run) (h : ℕ) (access : Access) (input : Input) (s : Replay FlatState) → Stands image b s
     → Agrees r h s → IsNext b.cursor (item_of b r h) (nexts.Touch input) → ahead_of r ≡ ahead.AtDevice access
     → is_some (touched b.backing.devices.devices access input) ≡ true → is_some b.backing.devices.devices.stop ≡ true
     → Goes image b r b.log h s (went.Diverged 6)
@@ -162,7 +162,7 @@ access_stopped image b r h access input s st a next is on stop =
     (access_verdict (unit_of b.log) s h next.0 next.1.0 access input true true due.guard (at_device image b r h access s st a is)
     (sym (suits_is b.backing r h access input is s st.backs a) ∙ on) (stop_is image b s true st stop)) refl refl
 
-pub access_goes : (image : Image) (old new : ReplayBoard) (backing : Backing) (r then_r : Run) (h : ℕ) (access : Access) (input : Input) (made : Bool)
+pub access_goes : (image : Image) (old new : Position) (backing : Backing) (r then_r : Run) (h : ℕ) (access : Access) (input : Input) (made : Bool)
     (s : Replay FlatState) → Stands image old s → Agrees r h s → IsNext old.cursor (item_of old r h) (nexts.Touch input) → ahead_of r ≡ ahead.AtDevice access
     → is_some (touched old.backing.devices.devices access input) ≡ true → is_some old.backing.devices.devices.stop ≡ false
     → backings.Suits old.backing r h input made → (IsTrue made → backings.MadeBy old.backing.devices backing.devices access input)
@@ -198,7 +198,7 @@ if_some None P all = tt
 if_some (Some w) P all = all w
 
 -- there is room for what it sends
-pub room_left : (image : Image) (b : ReplayBoard) (r : Run) (h : ℕ) (input : Input) (store : Option ℕ) (o : Option DeviceWord) (s : Replay FlatState)
+pub room_left : (image : Image) (b : Position) (r : Run) (h : ℕ) (input : Input) (store : Option ℕ) (o : Option DeviceWord) (s : Replay FlatState)
     → Stands image b s → Agrees r h s → IsNext b.cursor (item_of b r h) (nexts.Touch input)
     → IfSome o (λ word. IsTrue (sends word store) → 0 < b.backing.devices.spare)
 room_left image b r h input store o s st a next =

@@ -43,7 +43,7 @@ use Rattle.replay_law.proofs.Verdicts.{judge}
 use Rattle.order_rules.proofs.Takings.{number_met}
 use Rattle.replay_law.proofs.Orders.{lasts}
 use Rattle.replay_law.proofs.Tables.{held_stays}
-use Rattle.replay_core.specs.declared.board.ReplayBoard.{ReplayBoard}
+use Rattle.replay_core.specs.declared.position.Position.{Position}
 use Rattle.replay_core.specs.declared.went.Next.TheVariants as nexts
 use Rattle.replay_core.specs.declared.went.Went.TheVariants as went
 use Rattle.replay_core.specs.Items.{IsMet, IsNext}
@@ -51,13 +51,13 @@ use Rattle.replay_core.specs.Standing.{IsRoomy, Stands, Goes, Passes, item_of}
 use Rattle.replay_core.proofs.StateAfterItem.{reached, store_unit, run_unit, item_is, entered, stayed}
 
 -- an entry that is next, its guard met, at the state
-pub record IsDueAt (b : ReplayBoard) (h : ℕ) (e : Entry) (s : Replay FlatState) : Type 0 where
+pub record IsDueAt (b : Position) (h : ℕ) (e : Entry) (s : Replay FlatState) : Type 0 where
   pub next : next_item (board (unit_of b.log)) b.log s h ≡ Makes e
   pub guard : guard_is_met s.cursor e ≡ true
   pub first : first_left b.log s.cursor h ≡ Some e
   pub own_first : first_left b.log b.cursor h ≡ Some e
 
-pub due_at : (image : Image) (b : ReplayBoard) (r : Run) (h : ℕ) (e : Entry) (s : Replay FlatState) → Stands image b s → Agrees r h s
+pub due_at : (image : Image) (b : Position) (r : Run) (h : ℕ) (e : Entry) (s : Replay FlatState) → Stands image b s → Agrees r h s
     → IsMet b.cursor (item_of b r h) e → IsDueAt b h e s
 due_at image b r h e s st a met =
     let next : next_item (board (unit_of b.log)) b.log s h ≡ Makes e = item_is image b r h s st a ∙ met.0 in
@@ -70,7 +70,7 @@ due_at image b r h e s st a met =
     }
 
 -- the log, the devices and the room are as they were
-pub roomy_on : (old new : ReplayBoard) → new.log ≡ old.log → new.backing.devices ≡ old.backing.devices → old.cursor.ordinal ≤ new.cursor.ordinal
+pub roomy_on : (old new : Position) → new.log ≡ old.log → new.backing.devices ≡ old.backing.devices → old.cursor.ordinal ≤ new.cursor.ordinal
     → IsRoomy old → IsRoomy new
 roomy_on old new log devices ordinal roomy =
     let sent = ap (λ (d : DevicesWithRoom). length d.devices.sent) devices in
@@ -81,13 +81,13 @@ roomy_on old new log devices ordinal roomy =
       room = λ h i k e at is. let r = roomy.room h i k e (subst (λ l. entry_at l h i ≡ Some e) log at) is in omega (arith, r, sent, spare);
     }
 
-number_is : (image : Image) (b : ReplayBoard) (page seq : ℕ) (s : Replay FlatState) → Stands image b s → (h : ℕ) (m : Option Mode)
+number_is : (image : Image) (b : Position) (page seq : ℕ) (s : Replay FlatState) → Stands image b s → (h : ℕ) (m : Option Mode)
     → rules.held b.log page h seq ≡ m → slice_get s.cursor.numbers page ≡ Some seq → held s.holders page h ≡ m
 number_is image b page seq s st h m is number =
     (reached image b s st).going.good.follow page h ∙ ap (rules.held b.log page h) (get_or_from_slice_get s.cursor.numbers page seq 0 number) ∙ is
 
 -- a page of an entry is one of the run's
-pub page_there : (image : Image) (b : ReplayBoard) (r : Run) (h page seq : ℕ) (e : Entry) (s : Replay FlatState) → Stands image b s → Agrees r h s
+pub page_there : (image : Image) (b : Position) (r : Run) (h page seq : ℕ) (e : Entry) (s : Replay FlatState) → Stands image b s → Agrees r h s
     → IsMet b.cursor (item_of b r h) e → page_number e ≡ Some (page, seq) → page < length r.frames.pages
 page_there image b r h page seq e s st a met is =
     let due = due_at image b r h e s st a met in
@@ -95,7 +95,7 @@ page_there image b r h page seq e s st a met is =
     let table = (reached image b s st).going.good.sound.table in
     let frames = a.table in omega (arith, low, table, frames)
 
-right_o6 : (image : Image) (b : ReplayBoard) (h : ℕ) (e : Entry) (s : Replay FlatState) → Stands image b s → IsDueAt b h e s
+right_o6 : (image : Image) (b : Position) (h : ℕ) (e : Entry) (s : Replay FlatState) → Stands image b s → IsDueAt b h e s
     → breaks_o6 b.log (record { hart = h; place = slice_index s.cursor.places h; entry = e }) ≡ false
 right_o6 image b h e s st due =
     let i = slice_index s.cursor.places h in
@@ -107,7 +107,7 @@ right_o6 image b h e s st due =
     ) in
     sym (ap (λ o. is_some_and o (λ z. breaks_o6 b.log (record { hart = h; place = slice_index s.cursor.places h; entry = z }))) due.first) ∙ right
 
-pub gain_more : (image : Image) (b : ReplayBoard) (r : Run) (h count page seq : ℕ) (mode : Mode) (waits : WaitList) (s : Replay FlatState) → Stands image b s
+pub gain_more : (image : Image) (b : Position) (r : Run) (h count page seq : ℕ) (mode : Mode) (waits : WaitList) (s : Replay FlatState) → Stands image b s
     → Agrees r h s → IsMet b.cursor (item_of b r h) (entries.Gain count page seq mode waits) → strength (held s.holders page h) < strength (Some mode)
 gain_more image b r h count page seq mode waits s st a met =
     let e = entries.Gain count page seq mode waits in
@@ -117,7 +117,7 @@ gain_more image b r h count page seq mode waits s st a met =
     let is = number_is image b page seq s st h (rules.held b.log page h seq) refl (number_met seq (slice_get s.cursor.numbers page) due.guard) in
     let same = ap strength is in omega (arith, more, same)
 
-pub yield_less : (image : Image) (b : ReplayBoard) (r : Run) (h count page seq : ℕ) (left : Option Mode) (s : Replay FlatState) → Stands image b s
+pub yield_less : (image : Image) (b : Position) (r : Run) (h count page seq : ℕ) (left : Option Mode) (s : Replay FlatState) → Stands image b s
     → Agrees r h s → IsMet b.cursor (item_of b r h) (entries.Yield count page seq left) → strength left < strength (held s.holders page h)
 yield_less image b r h count page seq left s st a met =
     let due = due_at image b r h (entries.Yield count page seq left) s st a met in
@@ -146,7 +146,7 @@ yield_can : (u : ℕ) (s : Replay FlatState) (h count page seq : ℕ) (left : Op
 yield_can u s h count page seq left guard = ap (λ b. if b then CanGo else Holds) guard
 
 -- nobody holds in Write what a hart can gain
-unwritten : (image : Image) (b : ReplayBoard) (r : Run) (h count page seq : ℕ) (mode : Mode) (waits : WaitList) (s : Replay FlatState) → Stands image b s
+unwritten : (image : Image) (b : Position) (r : Run) (h count page seq : ℕ) (mode : Mode) (waits : WaitList) (s : Replay FlatState) → Stands image b s
     → Agrees r h s → IsMet b.cursor (item_of b r h) (entries.Gain count page seq mode waits) → IsUnwritten s.holders page
 unwritten image b r h count page seq mode waits s st a met g write =
     let e = entries.Gain count page seq mode waits in
@@ -172,10 +172,10 @@ unwritten image b r h count page seq mode waits s st a met g write =
           ∙ then_good.sound.crew.holders page g h n)
     ]
 
-ordinal_kept : (old new : ReplayBoard) (c : Cursor) → new.cursor ≡ c → c.ordinal ≡ old.cursor.ordinal → old.cursor.ordinal ≤ new.cursor.ordinal
+ordinal_kept : (old new : Position) (c : Cursor) → new.cursor ≡ c → c.ordinal ≡ old.cursor.ordinal → old.cursor.ordinal ≤ new.cursor.ordinal
 ordinal_kept old new c is same = let k = ap (λ (z : Cursor). z.ordinal) is in omega (arith, k, same)
 
-pub gain_goes : (image : Image) (old new : ReplayBoard) (backing : Backing) (r then_r : Run) (h page : ℕ) (mode : Mode) (s : Replay FlatState)
+pub gain_goes : (image : Image) (old new : Position) (backing : Backing) (r then_r : Run) (h page : ℕ) (mode : Mode) (s : Replay FlatState)
     → Stands image old s → Agrees r h s → IsNext old.cursor (item_of old r h) (nexts.Gain page mode) → backing.devices ≡ old.backing.devices
     → new.log ≡ old.log → new.backing ≡ backing → Passes old new h → backings.GainLeads old.backing backing r then_r page mode
     → Goes image new then_r old.log h s went.Entry
@@ -193,7 +193,7 @@ gain_goes image old new backing r then_r h page mode s st a next devices log_is 
     log_is cursor (roomy_on old new log_is (ap (λ (z : Backing). z.devices) backing_is ∙ devices) (ordinal_kept old new _ cursor refl) st.roomy)
     (λ t is. ap (λ (z : Replay FlatState). z.cursor) (sym (same_Some _ _ is)))
 
-pub alone : (image : Image) (b : ReplayBoard) (r : Run) (h count page seq : ℕ) (left : Option Mode) (s : Replay FlatState) → Stands image b s → Agrees r h s
+pub alone : (image : Image) (b : Position) (r : Run) (h count page seq : ℕ) (left : Option Mode) (s : Replay FlatState) → Stands image b s → Agrees r h s
     → IsMet b.cursor (item_of b r h) (entries.Yield count page seq left) → (g : ℕ) → g ≢ h → held s.holders page g ≢ Some Write
 alone image b r h count page seq left s st a met g n write =
     let less = yield_less image b r h count page seq left s st a met in
@@ -201,11 +201,11 @@ alone image b r h count page seq left s st a met g n write =
     holds_some (held s.holders page h) (strength left) less (ap (λ m. conflict m (held s.holders page h)) (sym write) ∙ crew)
 
 -- what waits for no hold
-pub has_ended : (image : Image) (b : ReplayBoard) (r : Run) (h : ℕ) (s : Replay FlatState) → Stands image b s → Agrees r h s → item_of b r h ≡ Ended
+pub has_ended : (image : Image) (b : Position) (r : Run) (h : ℕ) (s : Replay FlatState) → Stands image b s → Agrees r h s → item_of b r h ≡ Ended
     → Goes image b r b.log h s went.Ended
 has_ended image b r h s st a item = stayed image b r h Ended HasEnded s went.Ended st a (item_is image b r h s st a ∙ item) refl refl refl
 
-pub holds_on : (image : Image) (b : ReplayBoard) (r : Run) (h : ℕ) (s : Replay FlatState) → Stands image b s → Agrees r h s → (e : Entry)
+pub holds_on : (image : Image) (b : Position) (r : Run) (h : ℕ) (s : Replay FlatState) → Stands image b s → Agrees r h s → (e : Entry)
     → item_of b r h ≡ Makes e → guard_is_met b.cursor e ≡ false → Goes image b r b.log h s went.Hold
 holds_on image b r h s st a e item guard =
     stayed image b r h (Makes e) Holds s went.Hold st a (item_is image b r h s st a ∙ item)
@@ -221,7 +221,7 @@ touch_wants u s h count ord input w is some guard =
     (ap is_some is ∙ some)
 
 -- a Touch whose move lacks a page, or is no device access
-pub touch_lacks : (image : Image) (b : ReplayBoard) (r : Run) (h page : ℕ) (mode : Mode) (input : Input) (s : Replay FlatState) → Stands image b s
+pub touch_lacks : (image : Image) (b : Position) (r : Run) (h page : ℕ) (mode : Mode) (input : Input) (s : Replay FlatState) → Stands image b s
     → Agrees r h s → IsNext b.cursor (item_of b r h) (nexts.Touch input) → IsAhead (unit_of b.log) h s (ahead.Wants page mode)
     → Goes image b r b.log h s (went.Diverged 1)
 touch_lacks image b r h page mode input s st a next asks =
@@ -229,7 +229,7 @@ touch_lacks image b r h page mode input s st a next asks =
     stayed image b r h (Makes (entries.Touch next.0 next.1.0 input)) (HasDiverged 1) s (went.Diverged 1) st a due.next
     (touch_wants (unit_of b.log) s h next.0 next.1.0 input (Some (page, mode)) asks refl due.guard) refl refl
 
-pub touch_off : (image : Image) (b : ReplayBoard) (r : Run) (h : ℕ) (input : Input) (s : Replay FlatState) → Stands image b s → Agrees r h s
+pub touch_off : (image : Image) (b : Position) (r : Run) (h : ℕ) (input : Input) (s : Replay FlatState) → Stands image b s → Agrees r h s
     → IsNext b.cursor (item_of b r h) (nexts.Touch input) → IsAhead (unit_of b.log) h s ahead.Free → Goes image b r b.log h s (went.Diverged 3)
 touch_off image b r h input s st a next asks =
     let due = due_at image b r h (entries.Touch next.0 next.1.0 input) s st a next.1.1 in
@@ -249,7 +249,7 @@ yield_cursor u s h page left true t is =
     let f = mapped (λ (f : FlatState). record s { flat = f }) ((board u).next s.flat (Lose h)) m.0 m.1 in
     ap (λ (z : Replay FlatState). z.cursor) (sym m.2) ∙ ap (λ (z : Replay FlatState). z.cursor) (sym f.2)
 
-pub yield_goes : (image : Image) (old new : ReplayBoard) (backing : Backing) (r then_r : Run) (h page : ℕ) (left : Option Mode) (s : Replay FlatState)
+pub yield_goes : (image : Image) (old new : Position) (backing : Backing) (r then_r : Run) (h page : ℕ) (left : Option Mode) (s : Replay FlatState)
     → Stands image old s → Agrees r h s → IsNext old.cursor (item_of old r h) (nexts.Yield page left) → backing.devices ≡ old.backing.devices
     → new.log ≡ old.log → new.backing ≡ backing → Passes old new h → backings.YieldLeads old.backing backing r then_r page left
     → Goes image new then_r old.log h s went.Entry
@@ -266,7 +266,7 @@ yield_goes image old new backing r then_r h page left s st a next devices log_is
     (λ t is. yield_cursor (unit_of old.log) s h page left (ends_reservation (board (unit_of old.log)) s h page) t is)
 
 -- the store is that of the run
-pub store_is : (image : Image) (b : ReplayBoard) (r : Run) (h : ℕ) (s : Replay FlatState) → Stands image b s → Agrees r h s → backings.IsStoreOf b.backing r
+pub store_is : (image : Image) (b : Position) (r : Run) (h : ℕ) (s : Replay FlatState) → Stands image b s → Agrees r h s → backings.IsStoreOf b.backing r
 store_is image b r h s st a = (store_unit image b s st ∙ sym (run_unit image b r h s st a), st.backs.number ∙ a.table)
 
 pub run_lacks : (r : Run) (h page n : ℕ) (s : Replay FlatState) → Agrees r h s → strength (held s.holders page h) < n → strength (hold_of r page) < n

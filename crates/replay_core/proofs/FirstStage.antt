@@ -16,7 +16,7 @@ use Rattle.device_board.specs.State.{DevicesWithRoom, devices_at_start}
 use Rattle.board_backing.specs.declared.backing.Backing.{Backing}
 use Rattle.board_backing.specs.Backing.{BacksFirst}
 use Rattle.replay_law.specs.Laws.{IsReplayable, first_replay}
-use Rattle.replay_core.specs.declared.board.ReplayBoard.{ReplayBoard}
+use Rattle.replay_core.specs.declared.position.Position.{Position}
 use Rattle.replay_core.specs.declared.replaying.Replaying.{Replaying}
 use Rattle.board_backing.specs.Ends.{HasPlaces}
 use Rattle.replay_core.specs.Standing.{AgreeAtFirst, OrdinalsBelow, IsRoomy, Stands, IsAt}
@@ -51,7 +51,7 @@ is_first log image is =
     let number : length image.bytes / 4096 ≡ log.pages = omega (arith, size, pages) in
     (refl, ap (λ n. nobody n (length log.streams)) (sym (ap (λ u. length image.bytes / u) is.whole.unit ∙ number)))
 
-pub first_stands : (image : Image) (b : ReplayBoard) → IsReplayable b.log image → IsTrue (in_range b.log) → b.cursor ≡ cursors.start b.log
+pub first_stands : (image : Image) (b : Position) → IsReplayable b.log image → IsTrue (in_range b.log) → b.cursor ≡ cursors.start b.log
     → BacksFirst image (length b.log.streams) b.backing → IsRoomy b → Stands image b (first_replay b.log image)
 first_stands image b is range cursor backs roomy = record {
   replayable = is;
@@ -77,7 +77,7 @@ first_at image log stage harts log_is stands many long agree ends =
     }
 
 -- devices with room for each console byte of the log
-pub first_roomy : (b : ReplayBoard) (room : ℕ) → b.backing.devices ≡ record { devices = devices_at_start (length b.log.streams); spare = max 0 room }
+pub first_roomy : (b : Position) (room : ℕ) → b.backing.devices ≡ record { devices = devices_at_start (length b.log.streams); spare = max 0 room }
     → OrdinalsBelow b.log room → IsRoomy b
 first_roomy b room is below =
     let sent : length b.backing.devices.devices.sent ≡ 0 = ap (λ (d : DevicesWithRoom). length d.devices.sent) is in

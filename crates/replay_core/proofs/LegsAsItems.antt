@@ -29,7 +29,7 @@ use Rattle.run_model.specs.declared.asked.Ahead.TheVariants as ahead
 use Rattle.run_model.specs.declared.asked.Pause.{Pause}
 use Rattle.board_backing.proofs.Begins.{leg_backs}
 use Rattle.replay_law.specs.Laws.{first_replay}
-use Rattle.replay_core.specs.declared.board.ReplayBoard.{ReplayBoard}
+use Rattle.replay_core.specs.declared.position.Position.{Position}
 use Rattle.replay_core.specs.declared.replaying.Replaying.{Replaying}
 use Rattle.replay_core.specs.Standing.{GoesOn, HasGone, IsAt, IsSame, IsSomewhere, MakesMoves, RunsOn, Stands, left}
 use Rattle.replay_parts.proofs.Led.{made_cursor, move_next, run_counts, runs_count}
@@ -75,8 +75,28 @@ write_clashes None some f = absurd (true≢false (sym some))
 write_clashes (Some Read) some f = true≢false f
 write_clashes (Some Write) some f = true≢false f
 
+-- the board stands where Runs up to that count lead
+pub stands_led : (image : Image) (b : Position) (h n : ℕ) (s t : Replay FlatState) (e : Entry) → Stands image b s → first_left b.log b.cursor h ≡ Some e
+    → h < length s.flat.counts → (board (unit_of b.log)).count t.flat h ≤ count_of e → Runs (board (unit_of b.log)) h n s t
+    → DifferFor (unit_of b.log) h s t → length t.flat.memory ≡ length s.flat.memory → Stands image b t
+stands_led image b h n s t e st first l within runs differ long =
+    let steps = runs_lead b.log h n s t e (ap (λ c. first_left b.log c h) (sym st.cursor) ∙ first) l within runs in
+    record {
+      replayable = st.replayable;
+      range = st.range;
+      order = map (λ (m : ℕ × Option (List Step)). m.0) (st.obeys.0 ++ steps.0);
+      obeys = (
+        st.obeys.0 ++ steps.0,
+        refl,
+        leads_on (step (board (unit_of b.log)) b.log) (first_replay b.log image) s t st.obeys.0 steps.0 st.obeys.2 steps.1.0,
+      );
+      cursor = st.cursor ∙ sym differ.cursor;
+      backs = leg_backs b.backing h s t st.backs (subst (λ u. DifferFor u h s t) (sym (store_unit image b s st)) differ) long;
+      roomy = st.roomy;
+    }
+
 -- a leg of hart h from a state at which the board stands
-module _ (image : Image) (b : ReplayBoard) (r new : Run) (h until : ℕ) (pause : Pause) (s : Replay FlatState) (e : Entry) (st : Stands image b s)
+module _ (image : Image) (b : Position) (r new : Run) (h until : ℕ) (pause : Pause) (s : Replay FlatState) (e : Entry) (st : Stands image b s)
     (a : Agrees r h s) (first : first_left b.log b.cursor h ≡ Some e) (to : until ≤ count_of e) (leg : MakesLeg (unit_of b.log) new pause h until s)
     (kept : KeepsPages r new) where
   counted : h < length s.flat.counts
@@ -93,19 +113,8 @@ module _ (image : Image) (b : ReplayBoard) (r new : Run) (h until : ℕ) (pause 
 
   pub stands_there : Stands image b leg.at
   stands_there =
-      record {
-        replayable = st.replayable;
-        range = st.range;
-        order = map (λ (m : ℕ × Option (List Step)). m.0) (st.obeys.0 ++ steps.0);
-        obeys = (
-          st.obeys.0 ++ steps.0,
-          refl,
-          leads_on (step (board (unit_of b.log)) b.log) (first_replay b.log image) s leg.at st.obeys.0 steps.0 st.obeys.2 steps.1.0,
-        );
-        cursor = st.cursor ∙ sym leg.others.cursor;
-        backs = leg_backs b.backing h s leg.at st.backs (subst (λ u. DifferFor u h s leg.at) (sym (store_unit image b s st)) leg.others) memory_long;
-        roomy = st.roomy;
-      }
+      let within = leg.leg.within in
+      stands_led image b h leg.leg.moves s leg.at e st first counted (omega (arith, within, to)) leg.leg.runs leg.others memory_long
 
   -- another hart's run agrees on
   pub others_stay : (g : ℕ) (q : Run) → g ≢ h → Agrees q g s → Agrees q g leg.at
@@ -172,7 +181,7 @@ module _ (old new : Replaying) (h most : ℕ) (was r : Run) (there : slice_get o
   then_at image s at =
       let m = moved_on image s at in
       stage_to image old new r was h s m.at at there (subst (λ b. Stands image b (moved_on image s at).at) (sym board_is) m.stands) m.agrees m.others
-      (ap (λ (b : ReplayBoard). b.log) board_is) runs_are ends_are
+      (ap (λ (b : Position). b.log) board_is) runs_are ends_are
 
   pub leg_on : GoesOn old new
   leg_on image s at = ((moved_on image s at).at, then_at image s at)
@@ -206,7 +215,7 @@ module _ (old new : Replaying) (h most : ℕ) (was r : Run) (there : slice_get o
       let old_done = done_is x.0 old x.1.0 x.1.1 in
       let new_done = done_is x.0 new m.at (then_at x.0 x.1.0 x.1.1) in
       let most = within old.board.log x.0 m.stands.replayable m.at going in
-      less_left (most_done old.board.log) (most_done new.board.log) (done_of old) (done_of new) (ap (λ (b : ReplayBoard). most_done b.log) board_is)
+      less_left (most_done old.board.log) (most_done new.board.log) (done_of old) (done_of new) (ap (λ (b : Position). most_done b.log) board_is)
       (omega (arith, counts, places, old_done, new_done)) (omega (arith, most, new_done))
 
 -- a stage behind what may be a leg

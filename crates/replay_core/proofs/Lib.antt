@@ -19,3 +19,5 @@ pub mod AlongLists
 pub mod MovesTold
 pub mod NotesKept
 pub mod StoriesTold
+pub mod EntriesInTurns
+pub mod TurnsTaken

@@ -20,20 +20,20 @@ use Rattle.hart_run.specs.Calls.{LegAgrees}
 use Rattle.board_backing.proofs.Begins.{leg_backs}
 use Rattle.replay_law.proofs.Verdicts.{judge}
 use Rattle.replay_parts.proofs.Led.{runs_count}
-use Rattle.replay_core.specs.declared.board.ReplayBoard.{ReplayBoard}
+use Rattle.replay_core.specs.declared.position.Position.{Position}
 use Rattle.replay_core.specs.declared.went.Went.TheVariants as went
 use Rattle.replay_core.specs.Standing.{Stands, Goes, item_of}
 use Rattle.replay_core.proofs.CountLimits.{at_most_limit}
 use Rattle.replay_core.proofs.StateAfterItem.{reached, store_unit, run_unit, item_is, went_to, stayed}
 
 -- a hart with a run is one of the log's
-pub hart_there : (image : Image) (b : ReplayBoard) (r : Run) (h : ℕ) (s : Replay FlatState) → Stands image b s → Agrees r h s → h < length b.log.streams
+pub hart_there : (image : Image) (b : Position) (r : Run) (h : ℕ) (s : Replay FlatState) → Stands image b s → Agrees r h s → h < length b.log.streams
 hart_there image b r h s st a =
     let t = reached image b s st in
     let w = slice_get_within s.flat.harts h r.hart a.hart in
     let k = t.going.good.sound.sized.harts_size in omega (arith, w, k)
 
-pub place_there : (image : Image) (b : ReplayBoard) (r : Run) (h : ℕ) (s : Replay FlatState) → Stands image b s → Agrees r h s → h < length b.cursor.places
+pub place_there : (image : Image) (b : Position) (r : Run) (h : ℕ) (s : Replay FlatState) → Stands image b s → Agrees r h s → h < length b.cursor.places
 place_there image b r h s st a =
     let t = reached image b s st in
     let l = hart_there image b r h s st a in
@@ -41,7 +41,7 @@ place_there image b r h s st a =
     let c = ap (λ z. length z.places) st.cursor in omega (arith, l, p, c)
 
 -- its count is at most the limit
-pub count_low : (image : Image) (b : ReplayBoard) (r : Run) (h : ℕ) (s : Replay FlatState) → Stands image b s → Agrees r h s → r.count < 2 ^ 62
+pub count_low : (image : Image) (b : Position) (r : Run) (h : ℕ) (s : Replay FlatState) → Stands image b s → Agrees r h s → r.count < 2 ^ 62
 count_low image b r h s st a =
     let t = reached image b s st in
     let e = t.going.behind h (hart_there image b r h s st a) in
@@ -65,7 +65,7 @@ pub free_goes : (u : ℕ) (s : Replay FlatState) (h : ℕ) → IsAhead u h s ahe
 free_goes u s h asks = ap₂ (λ (w : Option (ℕ × Mode)) x. judge (board u) ((1, is_some w) ∷ (2, is_some x) ∷ [])) asks.0 asks.1
 
 -- a leg of the run is one by the log's unit
-pub leg_is : (image : Image) (b : ReplayBoard) (r new : Run) (h until : ℕ) (pause : Pause) (s : Replay FlatState) → Stands image b s → Agrees r h s
+pub leg_is : (image : Image) (b : Position) (r new : Run) (h until : ℕ) (pause : Pause) (s : Replay FlatState) → Stands image b s → Agrees r h s
     → LegAgrees r new until pause → MakesLeg (unit_of b.log) new pause h until s
 leg_is image b r new h until pause s st a leg =
     let unit = run_unit image b r h s st a in
@@ -73,7 +73,7 @@ leg_is image b r new h until pause s st a leg =
     (leg h s (subst (λ u. IsCrewState (board u) s) (sym unit) (reached image b s st).going.good.sound.crew) a)
 
 -- one move was made
-pub moved : (image : Image) (b : ReplayBoard) (r new : Run) (h : ℕ) (pause : Pause) (s : Replay FlatState) → Stands image b s → Agrees r h s
+pub moved : (image : Image) (b : Position) (r new : Run) (h : ℕ) (pause : Pause) (s : Replay FlatState) → Stands image b s → Agrees r h s
     → item_of b r h ≡ Move → IsAhead (unit_of b.log) h s ahead.Free → MakesLeg (unit_of b.log) new pause h (r.count + 1) s → KeepsPages r new
     → Goes image b new b.log h s went.Moved
 moved image b r new h pause s st a item asks leg kept =
@@ -88,14 +88,14 @@ moved image b r new h pause s st a item asks leg kept =
     (leg_backs b.backing h s leg.at st.backs (subst (λ u. DifferFor u h s leg.at) (sym (store_unit image b s st)) leg.others) long) st.roomy leg.agrees refl
 
 -- it lacks a page
-pub move_wants : (image : Image) (b : ReplayBoard) (r : Run) (h page : ℕ) (mode : Mode) (s : Replay FlatState) → Stands image b s → Agrees r h s
+pub move_wants : (image : Image) (b : Position) (r : Run) (h page : ℕ) (mode : Mode) (s : Replay FlatState) → Stands image b s → Agrees r h s
     → item_of b r h ≡ Move → IsAhead (unit_of b.log) h s (ahead.Wants page mode) → Goes image b r b.log h s (went.Diverged 1)
 move_wants image b r h page mode s st a item asks =
     stayed image b r h Move (HasDiverged 1) s (went.Diverged 1) st a (item_is image b r h s st a ∙ item)
     (ap (λ (w : Option (ℕ × Mode)). judge (board (unit_of b.log)) ((1, is_some w) ∷ (2, is_some (hart_access s.flat h)) ∷ [])) asks) refl refl
 
 -- it is a device access
-pub move_at_device : (image : Image) (b : ReplayBoard) (r : Run) (h : ℕ) (access : _) (s : Replay FlatState) → Stands image b s → Agrees r h s
+pub move_at_device : (image : Image) (b : Position) (r : Run) (h : ℕ) (access : _) (s : Replay FlatState) → Stands image b s → Agrees r h s
     → item_of b r h ≡ Move → IsAhead (unit_of b.log) h s (ahead.AtDevice access) → Goes image b r b.log h s (went.Diverged 2)
 move_at_device image b r h access s st a item asks =
     stayed image b r h Move (HasDiverged 2) s (went.Diverged 2) st a (item_is image b r h s st a ∙ item)

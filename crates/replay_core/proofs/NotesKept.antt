@@ -27,7 +27,7 @@ use Rattle.replay_law.proofs.Progress.{going_first}
 use Rattle.replay_core.specs.declared.notes.Notes.{Notes}
 use Rattle.replay_core.specs.declared.replaying.Replaying.{Replaying}
 use Rattle.replay_core.specs.Items.{after}
-use Rattle.replay_core.specs.declared.board.ReplayBoard.{ReplayBoard}
+use Rattle.replay_core.specs.declared.position.Position.{Position}
 use Rattle.replay_core.specs.Standing.{IsAt, IsSame, LeadsOn, MakesMoves, RunsOn}
 use Rattle.replay_core.specs.Stories.{moves_between, moves_of}
 use Rattle.replay_core.specs.Telling.{HasNoted, IsQuiet, NotesItem, NotesOn, SameAim, notes_at, seen_of}
@@ -260,13 +260,13 @@ pub leg_noted : (ran : Bool) (old new : Replaying) (h most : ℕ) (was r : Run) 
 leg_noted true old new h most was r n there makes still board_is runs_are ends_are quiet image s has =
     let m = moved_on old new h most was r there (makes refl) board_is runs_are ends_are image s has.at in (
       m.at,
-      noted_leg image old n s has new h most was r (ap (λ (b : ReplayBoard). b.log) board_is) there quiet m
+      noted_leg image old n s has new h most was r (ap (λ (b : Position). b.log) board_is) there quiet m
           (then_at old new h most was r there (makes refl) board_is runs_are ends_are image s has.at),
     )
 leg_noted false old new h most was r n there makes still board_is runs_are ends_are quiet image s has =
     let same : IsSame old new =
     (board_is, (runs_are ∙ ap (slice_set old.runs.items h) (still refl) ∙ set_same old.runs.items h was there, ends_are)) in
-    (s, noted_same image old new n s (ap (λ (b : ReplayBoard). b.log) board_is) has (same_at image old new s same has.at))
+    (s, noted_same image old new n s (ap (λ (b : Position). b.log) board_is) has (same_at image old new s same has.at))
 
 -- an item and its note
 pub item_noted : (old new : Replaying) (h : ℕ) (was r : Run) (n k : Notes) → LeadsOn old new h → new.board.log ≡ old.board.log

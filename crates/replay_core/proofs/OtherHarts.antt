@@ -12,13 +12,13 @@ use Rattle.replay_model.specs.State.{Replay}
 use Rattle.replay_model.specs.Items.{step}
 use Rattle.run_model.specs.Run.{Run}
 use Rattle.run_model.specs.Agreement.{Agrees}
-use Rattle.replay_core.specs.declared.board.ReplayBoard.{ReplayBoard}
+use Rattle.replay_core.specs.declared.position.Position.{Position}
 use Rattle.replay_core.specs.Items.{after}
 use Rattle.replay_core.specs.Standing.{Stands}
 use Rattle.replay_parts.proofs.Led.{others_agree}
 use Rattle.replay_core.proofs.StateAfterItem.{reached, run_unit}
 
-pub others_after : (image : Image) (b : ReplayBoard) (s : Replay FlatState) (g h : ℕ) (r : Run) → Stands image b s → g ≢ h → Agrees r g s
+pub others_after : (image : Image) (b : Position) (s : Replay FlatState) (g h : ℕ) (r : Run) → Stands image b s → g ≢ h → Agrees r g s
     → Agrees r g (after b.log h s)
 others_after image b s g h r st n k = by (step (board (unit_of b.log)) b.log h s) refl where
   by : (o : Option (Replay FlatState × Option (List Step))) → step (board (unit_of b.log)) b.log h s ≡ o → Agrees r g (option_map_or (λ m. m.0) o s)

@@ -18,7 +18,7 @@ use Rattle.replay_model.specs.Items.{Item, Ended, Move, Makes, Verdict, HasEnded
 use Rattle.run_model.specs.Run.{Run}
 use Rattle.replay_law.proofs.Progress.{going_lasts}
 use Rattle.replay_law.proofs.Timely.{reached_goes}
-use Rattle.replay_core.specs.declared.board.ReplayBoard.{ReplayBoard}
+use Rattle.replay_core.specs.declared.position.Position.{Position}
 use Rattle.replay_core.specs.declared.replaying.Replaying.{Replaying}
 use Rattle.replay_core.specs.declared.went.Went.{Went}
 use Rattle.replay_core.specs.Items.{IsStill, after, answer_of, went_of}
@@ -33,10 +33,10 @@ use Rattle.replay_core.proofs.Verdicts.{still}
 pub same_at : (image : Image) (old new : Replaying) (s : Replay FlatState) → IsSame old new → IsAt image old s → IsAt image new s
 same_at image old new s same at = record {
   stands = subst (λ b. Stands image b s) (sym same.0) at.stands;
-  runs = ap length same.1.0 ∙ at.runs ∙ ap (λ (b : ReplayBoard). length b.log.streams) (sym same.0);
+  runs = ap length same.1.0 ∙ at.runs ∙ ap (λ (b : Position). length b.log.streams) (sym same.0);
   agree = λ h r is. at.agree h r (ap (λ xs. slice_get xs h) (sym same.1.0) ∙ is);
   ends = places_on old.ends new.ends (length old.board.log.streams) (length new.board.log.streams) (length s.flat.memory) (length s.flat.memory) same.1.1
-      (ap (λ (b : ReplayBoard). length b.log.streams) same.0) refl at.ends;
+      (ap (λ (b : Position). length b.log.streams) same.0) refl at.ends;
 }
 
 pub same_back : (old new : Replaying) → IsSame old new → IsSame new old
@@ -46,7 +46,7 @@ pub same_then : (a b c : Replaying) → IsSame a b → IsSame b c → IsSame a c
 same_then a b c one two = (two.0 ∙ one.0, (two.1.0 ∙ one.1.0, two.1.1 ∙ one.1.1))
 
 pub same_log : (old new : Replaying) → IsSame old new → new.board.log ≡ old.board.log
-same_log old new same = ap (λ (b : ReplayBoard). b.log) same.0
+same_log old new same = ap (λ (b : Position). b.log) same.0
 
 -- the states of stages, one after the other
 pub on_then : (a b c : Replaying) → GoesOn a b → GoesOn b c → GoesOn a c
@@ -148,7 +148,7 @@ has_item old new h answer x there answers leads log_is made =
 -- stages that are one have as much left
 same_left : (old new : Replaying) → IsSame old new → left new ≡ left old
 same_left old new same =
-    ap₂ (λ (b : ReplayBoard) (runs : List Run). total (map length b.log.streams) + length b.log.streams * b.log.limit
+    ap₂ (λ (b : Position) (runs : List Run). total (map length b.log.streams) + length b.log.streams * b.log.limit
     - (total b.cursor.places + total (map (λ (r : Run). r.count) runs))) same.0 same.1.0
 
 -- a hart that went and then another, or the same

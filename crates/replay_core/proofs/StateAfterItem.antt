@@ -25,14 +25,14 @@ use Rattle.board_backing.proofs.Backs.{one_unit}
 use Rattle.replay_law.specs.Laws.{first_replay}
 use Rattle.replay_law.proofs.Timely.{Timely, timely}
 use Rattle.replay_law.proofs.Views.{shape_of}
-use Rattle.replay_core.specs.declared.board.ReplayBoard.{ReplayBoard}
+use Rattle.replay_core.specs.declared.position.Position.{Position}
 use Rattle.replay_core.specs.declared.went.Went.{Went}
 use Rattle.replay_core.specs.declared.went.Went.TheVariants as went
 use Rattle.replay_core.specs.Items.{went_of, after}
 use Rattle.replay_core.specs.Standing.{IsRoomy, Stands, Goes, item_of}
 use Rattle.orders_law.proofs.Leads.{leads_on}
 
-pub reached : (image : Image) (b : ReplayBoard) (s : Replay FlatState) → (st : Stands image b s) → Timely b.log image st.replayable s
+pub reached : (image : Image) (b : Position) (s : Replay FlatState) → (st : Stands image b s) → Timely b.log image st.replayable s
 reached image b s st = timely b.log image st.replayable s st.obeys.0 st.obeys.2
 
 log_unit : (log : Log) (n size u : ℕ) → 1 ≤ log.pages → n ≡ units_of log → size ≡ n * u → size ≡ page_bytes * log.pages → u ≡ unit_of log
@@ -40,32 +40,32 @@ log_unit log zero size u some n_is sized whole = absurd (omega (arith, some, n_i
 log_unit log (suc n) size u some n_is sized whole =
     one_unit n u (unit_of log) (sym sized ∙ whole ∙ sym (shape_of log).whole ∙ ap (λ k. k * unit_of log) (sym n_is))
 
-some_page : (image : Image) (b : ReplayBoard) (s : Replay FlatState) → Stands image b s → 1 ≤ b.log.pages
+some_page : (image : Image) (b : Position) (s : Replay FlatState) → Stands image b s → 1 ≤ b.log.pages
 some_page image b s st = let l = st.replayable.whole.least_pages in let p = st.replayable.pages in omega (arith, l, p)
 
-pub store_unit : (image : Image) (b : ReplayBoard) (s : Replay FlatState) → Stands image b s → b.backing.pages.unit ≡ unit_of b.log
+pub store_unit : (image : Image) (b : Position) (s : Replay FlatState) → Stands image b s → b.backing.pages.unit ≡ unit_of b.log
 store_unit image b s st =
     let sound = (reached image b s st).going.good.sound in
     log_unit b.log (length b.backing.pages.pages) (length s.flat.memory) b.backing.pages.unit (some_page image b s st) (st.backs.number ∙ sound.table)
     st.backs.memory sound.sized.memory_size
 
-pub run_unit : (image : Image) (b : ReplayBoard) (r : Run) (h : ℕ) (s : Replay FlatState) → Stands image b s → Agrees r h s → r.frames.unit ≡ unit_of b.log
+pub run_unit : (image : Image) (b : Position) (r : Run) (h : ℕ) (s : Replay FlatState) → Stands image b s → Agrees r h s → r.frames.unit ≡ unit_of b.log
 run_unit image b r h s st a =
     let sound = (reached image b s st).going.good.sound in
     log_unit b.log (length r.frames.pages) (length s.flat.memory) r.frames.unit (some_page image b s st) (sym a.table ∙ sound.table)
     a.memory sound.sized.memory_size
 
 -- what is ahead of a run, by the log's unit
-pub ahead_is : (image : Image) (b : ReplayBoard) (r : Run) (h : ℕ) (s : Replay FlatState) (ahead : Ahead) → Stands image b s → Agrees r h s
+pub ahead_is : (image : Image) (b : Position) (r : Run) (h : ℕ) (s : Replay FlatState) (ahead : Ahead) → Stands image b s → Agrees r h s
     → IsAhead r.frames.unit h s ahead → IsAhead (unit_of b.log) h s ahead
 ahead_is image b r h s ahead st a asks = subst (λ u. IsAhead u h s ahead) (run_unit image b r h s st a) asks
 
 -- the board's item of a run is the state's
-pub item_is : (image : Image) (b : ReplayBoard) (r : Run) (h : ℕ) (s : Replay FlatState) → Stands image b s → Agrees r h s
+pub item_is : (image : Image) (b : Position) (r : Run) (h : ℕ) (s : Replay FlatState) → Stands image b s → Agrees r h s
     → next_item (board (unit_of b.log)) b.log s h ≡ item_of b r h
 item_is image b r h s st a = ap₂ (λ n c. item_at n (first_left b.log c h)) (get_or_from_slice_get s.flat.counts h r.count 0 a.count) (sym st.cursor)
 
-pub stands_on : (image : Image) (old : ReplayBoard) (backing : Backing) (cursor : Cursor) (h : ℕ) (s a : Replay FlatState) (w : Option (List Step))
+pub stands_on : (image : Image) (old : Position) (backing : Backing) (cursor : Cursor) (h : ℕ) (s a : Replay FlatState) (w : Option (List Step))
     → Stands image old s → step (board (unit_of old.log)) old.log h s ≡ Some (a, w) → cursor ≡ a.cursor → Backs backing a
     → IsRoomy (record { log = old.log; backing = backing; cursor = cursor }) → Stands image (record { log = old.log; backing = backing; cursor = cursor }) a
 stands_on image old backing cursor h s a w st did cursor_is backs roomy =
@@ -101,12 +101,12 @@ agrees_past r h c s a =
       bytes = a.bytes;
     }
 
-board_is : (old new : ReplayBoard) (cursor : Cursor) → new.log ≡ old.log → new.cursor ≡ cursor
+board_is : (old new : Position) (cursor : Cursor) → new.log ≡ old.log → new.cursor ≡ cursor
     → record { log = old.log; backing = new.backing; cursor = cursor } ≡ new
 board_is old new cursor l c = λ i. record { log = sym l i; backing = new.backing; cursor = sym c i }
 
 -- an item was made
-pub went_to : (image : Image) (old new : ReplayBoard) (r : Run) (h : ℕ) (item : Item) (s a : Replay FlatState) (answer : Went) → Stands image old s
+pub went_to : (image : Image) (old new : Position) (r : Run) (h : ℕ) (item : Item) (s a : Replay FlatState) (answer : Went) → Stands image old s
     → next_item (board (unit_of old.log)) old.log s h ≡ item → verdict_on (board (unit_of old.log)) s h item ≡ CanGo
     → made (board (unit_of old.log)) s h item ≡ Some a
     → new.log ≡ old.log → new.cursor ≡ a.cursor → Backs new.backing a → IsRoomy new → Agrees r h a → answer ≡ went_of item CanGo
@@ -126,7 +126,7 @@ went_to image old new r h item s a answer st next go is log_is cursor_is backs r
     }
 
 -- an entry was made
-pub entered : (image : Image) (old new : ReplayBoard) (r : Run) (h : ℕ) (e : Entry) (s : Replay FlatState) → Stands image old s
+pub entered : (image : Image) (old new : Position) (r : Run) (h : ℕ) (e : Entry) (s : Replay FlatState) → Stands image old s
     → next_item (board (unit_of old.log)) old.log s h ≡ Makes e → verdict_on (board (unit_of old.log)) s h (Makes e) ≡ CanGo
     → backings.Leads old.backing new.backing r h (effect (board (unit_of old.log)) s h e)
     → new.log ≡ old.log → new.cursor ≡ taken old.cursor h e → IsRoomy new
@@ -140,7 +140,7 @@ entered image old new r h e s st next go leads log_is cursor_is roomy same =
     (agrees_past r h c t leads.agrees) refl
 
 -- nothing was made
-pub stayed : (image : Image) (b : ReplayBoard) (r : Run) (h : ℕ) (item : Item) (v : Verdict) (s : Replay FlatState) (answer : Went) → Stands image b s
+pub stayed : (image : Image) (b : Position) (r : Run) (h : ℕ) (item : Item) (v : Verdict) (s : Replay FlatState) (answer : Went) → Stands image b s
     → Agrees r h s → next_item (board (unit_of b.log)) b.log s h ≡ item → verdict_on (board (unit_of b.log)) s h item ≡ v
     → goes (board (unit_of b.log)) s h item v ≡ None
     → answer ≡ went_of item v → Goes image b r b.log h s answer

@@ -3,5 +3,7 @@ pub mod Ends
 pub mod Standing
 pub mod Laws
 pub mod Lists
+pub mod Entries
+pub mod Turns
 pub mod Stories
 pub mod Telling

@@ -21,7 +21,7 @@ use Rattle.run_model.specs.Agreement.{Agrees}
 use Rattle.hart_run.specs.Calls.{StartIsRight}
 use Rattle.board_backing.specs.Backing.{Backs}
 use Rattle.replay_law.specs.Laws.{IsReplayable, first_replay}
-use Rattle.replay_core.specs.declared.board.ReplayBoard.{ReplayBoard}
+use Rattle.replay_core.specs.declared.position.Position.{Position}
 use Rattle.replay_core.specs.declared.replaying.Replaying.{Replaying}
 use Rattle.replay_core.specs.declared.went.Went.{Went}
 use Rattle.replay_core.specs.declared.outcome.Outcome.{Outcome}
@@ -39,13 +39,13 @@ abbrev pub OrdinalsBelow : Log → ℕ → Type 0
 OrdinalsBelow log n = (h i k : ℕ) (e : Entry) → entry_at log h i ≡ Some e → ordinal_of e ≡ Some k → k < n
 
 -- the devices are of the log's harts, and they have room for each byte that an entry left can send: an ordinal was taken for each byte
-pub record IsRoomy (b : ReplayBoard) : Type 0 where
+pub record IsRoomy (b : Position) : Type 0 where
   pub harts : b.backing.devices.devices.harts ≡ length b.log.streams
   pub sent : length b.backing.devices.devices.sent ≤ b.cursor.ordinal
   pub room : OrdinalsBelow b.log (length b.backing.devices.devices.sent + b.backing.devices.spare)
 
 -- an order that obeys the log leads from the image's start to the state; the cursor is the board's, and its pages and devices back the state
-pub record Stands (image : Image) (b : ReplayBoard) (s : Replay FlatState) : Type 0 where
+pub record Stands (image : Image) (b : Position) (s : Replay FlatState) : Type 0 where
   pub replayable : IsReplayable b.log image
   pub range : IsTrue (in_range b.log)
   pub order : List ℕ
@@ -55,27 +55,27 @@ pub record Stands (image : Image) (b : ReplayBoard) (s : Replay FlatState) : Typ
   pub roomy : IsRoomy b
 
 -- some state that the board stands for agrees with the run of a hart
-abbrev pub IsTied : ReplayBoard → Run → ℕ → Type 0
+abbrev pub IsTied : Position → Run → ℕ → Type 0
 IsTied b run h = (image : Image) × ((s : Replay FlatState) × Stands image b s × Agrees run h s)
 
 -- the item of a hart whose run is this
-abbrev pub item_of : ReplayBoard → Run → ℕ → Item
+abbrev pub item_of : Position → Run → ℕ → Item
 item_of b run h = item_at run.count (first_left b.log b.cursor h)
 
 -- the hart had one item: the answer is the item's verdict, and board and run are at the state after it
-pub record Goes (image : Image) (new : ReplayBoard) (run : Run) (log : Log) (h : ℕ) (s : Replay FlatState) (answer : Went) : Type 0 where
+pub record Goes (image : Image) (new : Position) (run : Run) (log : Log) (h : ℕ) (s : Replay FlatState) (answer : Went) : Type 0 where
   pub answer_is : answer ≡ answer_of log s h
   pub stands : Stands image new (after log h s)
   pub agrees : Agrees run h (after log h s)
 
 -- the same of each state that the board stands for and the run agrees with, whatever the image
-abbrev pub MakesItem : ReplayBoard → ReplayBoard → Run → Run → ℕ → Went → Type 0
+abbrev pub MakesItem : Position → Position → Run → Run → ℕ → Went → Type 0
 MakesItem old new before after h answer =
     (image : Image) (s : Replay FlatState) → Stands image old s → Agrees before h s → Goes image new after old.log h s answer
 
 -- moves of the hart up to this count lead on from the state: the board stands there too, the hart's run agrees and has counted, and each other
 -- is as it was
-pub record RunsOn (image : Image) (b : ReplayBoard) (before after : Run) (h most : ℕ) (s : Replay FlatState) : Type 0 where
+pub record RunsOn (image : Image) (b : Position) (before after : Run) (h most : ℕ) (s : Replay FlatState) : Type 0 where
   pub at : Replay FlatState
   pub made : List (ℕ × Option (List Step))
   pub leads : Leads (step (board (unit_of b.log)) b.log) s made at
@@ -88,16 +88,16 @@ pub record RunsOn (image : Image) (b : ReplayBoard) (before after : Run) (h most
   pub within : after.count ≤ most
 
 -- so they do from each state that the board stands for and the run agrees with
-abbrev pub MakesMoves : ReplayBoard → Run → Run → ℕ → ℕ → Type 0
+abbrev pub MakesMoves : Position → Run → Run → ℕ → ℕ → Type 0
 MakesMoves b before after h most =
     (image : Image) (s : Replay FlatState) → Stands image b s → Agrees before h s → RunsOn image b before after h most s
 
 -- there nothing is changed
-abbrev pub StaysWhere : Type 0 → ReplayBoard → ReplayBoard → Run → Run → Type 0
+abbrev pub StaysWhere : Type 0 → Position → Position → Run → Run → Type 0
 StaysWhere where_so old new before after = where_so → (new ≡ old) × (after ≡ before)
 
 -- the hart's first entry left is taken, where its guard is met
-abbrev pub Passes : ReplayBoard → ReplayBoard → ℕ → Type 0
+abbrev pub Passes : Position → Position → ℕ → Type 0
 Passes old new h = (e : Entry) → first_left old.log old.cursor h ≡ Some e → guard_is_met old.cursor e ≡ true → new.cursor ≡ taken old.cursor h e
 
 -- each run agrees with the first state of its image, on a board of so many harts
@@ -105,7 +105,7 @@ abbrev pub AgreeAtFirst : Image → ℕ → List Run → Type 0
 AgreeAtFirst image harts runs = (h : ℕ) (r : Run) → slice_get runs h ≡ Some r → StartIsRight image harts h r
 
 -- a board at the start of the replay of an image
-abbrev pub BeginsBoard : Log → Image → ReplayBoard → Type 0
+abbrev pub BeginsBoard : Log → Image → Position → Type 0
 BeginsBoard log image b = (b.log ≡ log) × Stands image b (first_replay log image)
 
 -- the stage is at this state of the replay of an image: its board stands for it, and each hart's run agrees with it

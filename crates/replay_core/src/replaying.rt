@@ -9,9 +9,9 @@ ghost use Rattle.replay_core.specs.Standing.{FindsDiverged, AgreesOnCause, EndsA
 ghost use Rattle.replay_core.specs.Telling.{NotesOn, SameAim};
 ghost use Rattle.run_model.specs.Run.{Run};
 
-use crate::board::{ReplayBoard, harts_of};
 use crate::notes::{Notes, look};
 use crate::outcome::Outcome;
+use crate::position::{Position, harts_of};
 use crate::runs::first_runs;
 use crate::went::Went;
 use board_backing::Ends;
@@ -26,7 +26,7 @@ use std::alloc::Global;
 /// A replay's board, the run of each hart, and the places of its end.
 #[derive(Drop)]
 pub(crate) struct Replaying {
-    pub(crate) board: ReplayBoard,
+    pub(crate) board: Position,
     pub(crate) runs: Vec<HartRun>,
     pub(crate) ends: Ends,
 }
@@ -76,7 +76,7 @@ impl Replaying {
         requires { orderly.pages ≡ image.now.pages }
         ensures { IfOk result (Begins orderly image.now) }
     {
-        let board = ReplayBoard::start(alloc, orderly, image)?;
+        let board = Position::start(alloc, orderly, image)?;
         let harts = harts_of(board.log.log());
         let runs = first_runs(alloc, harts, image)?;
         let ends = Ends::start(alloc, harts, image)?;
@@ -237,7 +237,7 @@ impl Replaying {
     {
         let Replaying { board, runs, ends } = self;
         let cause = board.log.log().cause;
-        let ReplayBoard { backing, .. } = board;
+        let Position { backing, .. } = board;
         ends.gather(&runs, backing, cause)
     }
 

@@ -5,7 +5,7 @@ use Rattle.run_model.specs.declared.asked.Ahead.TheVariants as ahead
 use Rattle.replay_core.proofs.LegsAsItems.{runs_on}
 use Rattle.replay_core.proofs.MovesMade.{leg_is, place_there}
 use Rattle.replay_core.proofs.StateAfterItem.{ahead_is}
-use Rattle.replay_core.proofs.board.ReplayBoard.run_on.Goals as goal
+use Rattle.replay_core.proofs.position.Position.run_on.Goals as goal
 
 pub first_left-requires : goal.first_left-requires
 first_left-requires c = let t = c.requires in

@@ -5,7 +5,7 @@ use Rattle.replay_core.specs.declared.went.Next.TheVariants as nexts
 use Rattle.replay_core.specs.Items.{IsNext}
 use Rattle.replay_core.proofs.MovesMade.{place_there}
 use Rattle.replay_core.proofs.EntriesMade.{has_ended, holds_on}
-use Rattle.replay_core.proofs.board.ReplayBoard.go.Goals as goal
+use Rattle.replay_core.proofs.position.Position.go.Goals as goal
 
 pub next-requires : goal.next-requires
 next-requires c = let t = c.requires.tied in place_there t.0 c.args.self.now c.args.run.now c.args.hart t.1.0 t.1.1 t.1.2

@@ -1,7 +1,7 @@
 use Rattle.run_model.specs.declared.asked.Ahead.TheVariants as ahead
 use Rattle.replay_core.proofs.StateAfterItem.{ahead_is}
 use Rattle.replay_core.proofs.EntriesMade.{touch_lacks, touch_off}
-use Rattle.replay_core.proofs.board.ReplayBoard.touch.Goals as goal
+use Rattle.replay_core.proofs.position.Position.touch.Goals as goal
 
 pub returns-in-Wants-clause-goes : goal.returns-in-Wants-clause-goes
 returns-in-Wants-clause-goes c =

@@ -6,7 +6,7 @@ use Rattle.board_backing.specs.declared.backing.Backing.{Backing}
 use Rattle.board_backing.specs.Backing.{BacksFirst}
 use Rattle.replay_core.specs.Standing.{OrdinalsBelow}
 use Rattle.replay_core.proofs.FirstStage.{first_stands, first_roomy, backs_with_room}
-use Rattle.replay_core.proofs.board.ReplayBoard.start.Goals as goal
+use Rattle.replay_core.proofs.position.Position.start.Goals as goal
 
 pub returns : goal.returns
 returns c =

@@ -2,7 +2,7 @@ use Rattle.std.proofs.Common.{rules, ◌≡◌, ◌∙◌, sym, true, false, Non
 use Rattle.std.specs.Prelude.{is_some}
 use Rattle.replay_core.proofs.MovesMade.{place_there, count_low}
 use Rattle.replay_core.proofs.DeviceEntries.{device_hart, access_off, access_stopped, access_goes, room_left}
-use Rattle.replay_core.proofs.board.ReplayBoard.access.Goals as goal
+use Rattle.replay_core.proofs.position.Position.access.Goals as goal
 
 pub returns-then-not-suits-clause-goes : goal.returns-then-not-suits-clause-goes
 returns-then-not-suits-clause-goes c = λ image s st a.

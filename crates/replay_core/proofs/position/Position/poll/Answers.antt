@@ -2,7 +2,7 @@ use Rattle.std.proofs.Common.{rules, ◌≡◌, ◌∙◌, sym, true, None, ap}
 use Rattle.std.specs.Prelude.{is_some}
 use Rattle.replay_core.proofs.MovesMade.{place_there}
 use Rattle.replay_core.proofs.DeviceEntries.{device_hart, poll_off, poll_stopped, poll_goes}
-use Rattle.replay_core.proofs.board.ReplayBoard.poll.Goals as goal
+use Rattle.replay_core.proofs.position.Position.poll.Goals as goal
 
 pub returns-then-lines_at-bits-clause-goes : goal.returns-then-lines_at-bits-clause-goes
 returns-then-lines_at-bits-clause-goes c =

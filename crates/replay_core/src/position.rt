@@ -1,6 +1,6 @@
 //! A replay's board, apart from the runs of its harts.
 
-ghost use Rattle.std.specs.Prelude.{◌≡◌, ◌<◌, length, false, true, IsTrue, IfOk};
+ghost use Rattle.std.specs.Prelude.{◌≡◌, ◌≢◌, ◌<◌, length, false, true, IsTrue, IfOk};
 ghost use Rattle.log_entry.specs.Parts.{count_of};
 ghost use Rattle.log_entry.specs.Range.{in_range};
 ghost use Rattle.order_rules.specs.Cursor.{first_left};
@@ -10,6 +10,8 @@ ghost use Rattle.run_model.specs.declared.asked.Ahead.TheVariants.{AtDevice};
 ghost use Rattle.replay_core.specs.declared.went.Went.TheVariants as wents;
 ghost use Rattle.replay_core.specs.Items.{IsNext, IsStill};
 ghost use Rattle.replay_core.specs.declared.went.Next.TheVariants as nexts;
+ghost use Rattle.replay_parts.specs.Parts.{until_by};
+ghost use Rattle.replay_core.specs.Entries.{MakesAll, MakesEntry, left_of};
 ghost use Rattle.replay_core.specs.Standing.{BeginsBoard, IsTied, MakesItem, MakesMoves, StaysWhere, Passes, item_of};
 
 use crate::cursor::Cursor;
@@ -28,7 +30,7 @@ use std::alloc::Global;
 /// The log and how far it was taken, and the pages and devices. Its contracts speak of each state of the replay
 /// for which the board stands and with which the run agrees.
 #[derive(Drop)]
-pub struct ReplayBoard {
+pub struct Position {
     pub(crate) log: Orderly,
     pub(crate) backing: Backing,
     pub(crate) cursor: Cursor,
@@ -68,9 +70,17 @@ fn once(is_there: bool, met: bool, next: Next) -> Next
     }
 }
 
-impl ReplayBoard {
+/// Whether an entry was made.
+fn is_entry(went: Went) -> bool
+    ensures made { result ≡ true → went ≡ wents.Entry }
+    ensures none { result ≡ false → went ≢ wents.Entry }
+{
+    matches!(went, Went::Entry)
+}
+
+impl Position {
     /// The board at the start of the replay of an image, with room for each console byte.
-    pub(crate) fn start(alloc: Global, log: Orderly, image: &Image) -> Result<ReplayBoard, NoMemory>
+    pub(crate) fn start(alloc: Global, log: Orderly, image: &Image) -> Result<Position, NoMemory>
         requires { log.pages ≡ image.now.pages }
         ensures { IfOk result (BeginsBoard log image.now) }
     {
@@ -83,7 +93,7 @@ impl ReplayBoard {
         let cursor = Cursor::start(alloc, log.log())?;
         let mut backing = Backing::start(alloc, image, harts)?;
         backing.devices.reserve(room as u32)?;
-        Ok(ReplayBoard {
+        Ok(Position {
             log,
             backing,
             cursor,
@@ -260,6 +270,59 @@ impl ReplayBoard {
                 true
             }
             _ => false,
+        }
+    }
+
+    /// The count of the hart's first entry left, up to which it may move, and this one where there is none.
+    pub(crate) fn until(&self, count: u64, hart: u8) -> u64
+        requires { hart < length self.now.cursor.places }
+        ensures { result ≡ until_by count (first_left self.now.log self.now.cursor hart) }
+    {
+        match self.cursor.first_left(self.log.log(), usize::from(hart)) {
+            Some(entry) => count_of(entry),
+            None => count,
+        }
+    }
+
+    /// What comes of a move of the hart, which isn't made.
+    fn look(&self, run: &HartRun, hart: u8) -> Went
+        requires tied { IsTied self.now run.now hart }
+        requires next { item_of self.now run.now hart ≡ Move }
+        ensures makes { MakesEntry self.now self.now run.now run.now hart result }
+        ensures none { result ≢ wents.Entry }
+    {
+        match run.ahead() {
+            Ahead::Free => Went::Moved,
+            Ahead::Wants(_, _) => Went::Diverged(1),
+            Ahead::AtDevice(_) => Went::Diverged(2),
+        }
+    }
+
+    /// What comes of the hart's next item. It is made where it is an entry.
+    fn make(&mut self, run: &mut HartRun, hart: u8) -> Went
+        requires tied { IsTied self.old run.old hart }
+        ensures makes { MakesEntry self.old self.new run.old run.new hart result }
+        ensures less { result ≡ wents.Entry → left_of self.new run.new hart < left_of self.old run.old hart }
+        ensures log { self.new.log ≡ self.old.log }
+    {
+        let count = run.count();
+        if count < self.until(count, hart) {
+            return self.look(run, hart);
+        }
+        self.go(run, hart)
+    }
+
+    /// The hart's entries at its count are made, while it can. What comes of the item behind them.
+    pub(crate) fn make_all(&mut self, run: &mut HartRun, hart: u8) -> Went
+        requires tied { IsTied self.old run.old hart }
+        ensures makes { MakesAll self.old self.new run.old run.new hart result }
+        ensures log { self.new.log ≡ self.old.log }
+    {
+        'entries: loop {
+            let went = self.make(run, hart);
+            if !is_entry(went) {
+                return went;
+            }
         }
     }
 

@@ -2,7 +2,7 @@ use Rattle.std.proofs.Common.{ap, refl}
 use Rattle.board_backing.specs.declared.backing.Backing.{Backing}
 use Rattle.replay_core.proofs.MovesMade.{place_there}
 use Rattle.replay_core.proofs.EntriesMade.{page_there, yield_less, run_has, store_is, yield_goes}
-use Rattle.replay_core.proofs.board.ReplayBoard.yield_page.Goals as goal
+use Rattle.replay_core.proofs.position.Position.yield_page.Goals as goal
 
 pub yield_page-requires-clause-page : goal.yield_page-requires-clause-page
 yield_page-requires-clause-page c = let t = c.requires.tied in

@@ -4,7 +4,7 @@ use Rattle.log_entry.specs.Parts.{unit_of}
 use Rattle.run_model.specs.declared.asked.Ahead.TheVariants as ahead
 use Rattle.replay_core.proofs.StateAfterItem.{ahead_is}
 use Rattle.replay_core.proofs.MovesMade.{count_low, leg_is, moved, move_wants, move_at_device}
-use Rattle.replay_core.proofs.board.ReplayBoard.go_on.Goals as goal
+use Rattle.replay_core.proofs.position.Position.go_on.Goals as goal
 
 pub overflow_add-count : goal.overflow_add-count
 overflow_add-count c = let t = c.requires.tied in let low = count_low t.0 c.args.self.now c.args.run.now c.args.hart t.1.0 t.1.1 t.1.2 in

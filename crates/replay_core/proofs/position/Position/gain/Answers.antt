@@ -2,7 +2,7 @@ use Rattle.std.proofs.Common.{ap, refl}
 use Rattle.board_backing.specs.declared.backing.Backing.{Backing}
 use Rattle.replay_core.proofs.MovesMade.{place_there}
 use Rattle.replay_core.proofs.EntriesMade.{page_there, gain_more, run_lacks, store_is, gain_goes}
-use Rattle.replay_core.proofs.board.ReplayBoard.gain.Goals as goal
+use Rattle.replay_core.proofs.position.Position.gain.Goals as goal
 
 pub gain-requires-clause-page : goal.gain-requires-clause-page
 gain-requires-clause-page c = let t = c.requires.tied in
