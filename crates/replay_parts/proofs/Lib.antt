@@ -1,3 +1,4 @@
 pub mod Within
 pub mod Led
 pub mod Turned
+pub mod Advancing

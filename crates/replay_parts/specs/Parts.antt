@@ -1,5 +1,5 @@
 -- What a hart has of a replay's board (docs/replay.md).
-use Rattle.std.specs.Prelude.{ℕ, ◌≡◌, ◌≤◌, List, slice_get, slice_index, Option, Some, None}
+use Rattle.std.specs.Prelude.{ℕ, ◌≡◌, ◌≤◌, List, length, slice_get, slice_index, Option, Some, None}
 use Rattle.rv_words.specs.declared.shared.Mode.{Mode}
 use Rattle.rv_hart.specs.State.{Hart}
 use Rattle.elf_image.specs.Image.{Image}

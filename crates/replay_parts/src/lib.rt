@@ -3,6 +3,7 @@
 #![tactic(auto)]
 
 ghost use Rattle.replay_parts.specs.Laws.{StatesAre, FirstBoards, TurnsReach, PartsStay, RunsGoOn};
+ghost use Rattle.replay_parts.specs.Laws.{PartsHaveUnit, PartsAreNumbered, PartsUnmoved, LegsAdvance};
 
 /// The state that plain data stand for, which nothing stores, is the one to which the turns led, in whatever order.
 /// Before any turn it is the start of the image's replay.
@@ -17,4 +18,12 @@ pub fn turns_stay()
     ensures reach { TurnsReach }
     ensures parts { PartsStay }
     ensures runs { RunsGoOn }
+{}
+
+/// A run that is a hart's part has pages of the log's unit and the hart's number, and advances the part by its legs.
+pub fn runs_advance()
+    ensures unit { PartsHaveUnit }
+    ensures numbers { PartsAreNumbered }
+    ensures unmoved { PartsUnmoved }
+    ensures legs { LegsAdvance }
 {}
