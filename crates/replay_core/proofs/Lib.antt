@@ -21,3 +21,4 @@ pub mod NotesKept
 pub mod StoriesTold
 pub mod EntriesInTurns
 pub mod TurnsTaken
+pub mod PartsAdvanced

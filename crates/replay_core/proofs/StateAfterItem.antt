@@ -21,10 +21,10 @@ use Rattle.run_model.specs.declared.asked.Ahead.{Ahead}
 use Rattle.board_backing.specs.declared.backing.Backing.{Backing}
 use Rattle.board_backing.specs.Backing as backings
 use Rattle.board_backing.specs.Backing.{Backs}
-use Rattle.board_backing.proofs.Backs.{one_unit}
 use Rattle.replay_law.specs.Laws.{first_replay}
 use Rattle.replay_law.proofs.Timely.{Timely, timely}
 use Rattle.replay_law.proofs.Views.{shape_of}
+use Rattle.replay_parts.proofs.Advancing.{log_unit}
 use Rattle.replay_core.specs.declared.position.Position.{Position}
 use Rattle.replay_core.specs.declared.went.Went.{Went}
 use Rattle.replay_core.specs.declared.went.Went.TheVariants as went
@@ -34,11 +34,6 @@ use Rattle.orders_law.proofs.Leads.{leads_on}
 
 pub reached : (image : Image) (b : Position) (s : Replay FlatState) → (st : Stands image b s) → Timely b.log image st.replayable s
 reached image b s st = timely b.log image st.replayable s st.obeys.0 st.obeys.2
-
-log_unit : (log : Log) (n size u : ℕ) → 1 ≤ log.pages → n ≡ units_of log → size ≡ n * u → size ≡ page_bytes * log.pages → u ≡ unit_of log
-log_unit log zero size u some n_is sized whole = absurd (omega (arith, some, n_is))
-log_unit log (suc n) size u some n_is sized whole =
-    one_unit n u (unit_of log) (sym sized ∙ whole ∙ sym (shape_of log).whole ∙ ap (λ k. k * unit_of log) (sym n_is))
 
 some_page : (image : Image) (b : Position) (s : Replay FlatState) → Stands image b s → 1 ≤ b.log.pages
 some_page image b s st = let l = st.replayable.whole.least_pages in let p = st.replayable.pages in omega (arith, l, p)

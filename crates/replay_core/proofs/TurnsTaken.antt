@@ -14,7 +14,7 @@ use Rattle.flat_machine.specs.declared.act.Act.TheVariants as act
 use Rattle.replay_model.specs.Board.{board}
 use Rattle.replay_model.specs.State.{Replay}
 use Rattle.replay_model.specs.Items.{Item, Ended, Move, Makes, Verdict, HasEnded, Holds, CanGo, HasDiverged, next_item, verdict, verdict_on}
-use Rattle.run_model.specs.Run.{Run}
+use Rattle.run_model.specs.Run.{Run, number_of}
 use Rattle.run_model.specs.Agreement.{Agrees}
 use Rattle.run_model.specs.Legs.{Runs, DifferFor}
 use Rattle.shared_types.proofs.Lists.{bound_to, mapped}
@@ -35,7 +35,7 @@ use Rattle.replay_core.specs.Items.{answer_of, went_of}
 use Rattle.replay_core.specs.declared.replaying.Replaying.{Replaying}
 use Rattle.replay_core.specs.Standing.{Begins, IsAt, Stands}
 use Rattle.replay_core.specs.Entries.{HasMadeAll, MakesAll}
-use Rattle.replay_core.specs.Turns.{AreParts, Keeps, number_of, pace_of, plain_of, told}
+use Rattle.replay_core.specs.Turns.{AreParts, Keeps, pace_of, plain_of, told}
 use Rattle.log_order.proofs.Refusals.{small}
 use Rattle.replay_core.proofs.LegsAsItems.{stands_led}
 use Rattle.replay_core.proofs.MovesMade.{place_there}
@@ -67,6 +67,16 @@ made_is : (log : Log) (s : Replay FlatState) (h : ℕ) → MakesNext log s h →
 made_is log s h makes =
     ap (λ i. went_of i (verdict (board (unit_of log)) log s h)) makes.1.0 ∙ ap (went_of (Makes makes.0)) makes.1.1
 
+-- there is a place and a count for each hart
+module _ (b : Position) (ends : Ends) (image : Image) (counts : List ℕ) (k : Keeps b ends (plain_of b image counts)) where
+  pub places_size : length b.cursor.places ≡ length b.log.streams
+  places_size = ap (λ (c : Cursor). length c.places) k.stands.cursor ∙ (reached image b k.at k.stands).going.places
+
+  pub counts_size : length counts ≡ length b.log.streams
+  counts_size =
+      let sized = (reached image b k.at k.stands).going.good.sound.sized in
+      ap length (sym k.reaches.counts) ∙ sized.counts_size ∙ sized.harts_size
+
 -- a turn of hart h, whose run is r and was advanced by n moves
 module _ (b : Position) (ends : Ends) (image : Image) (counts : List ℕ) (r : Run) (h n : ℕ) (k : Keeps b ends (plain_of b image counts))
     (part : IsPartAdvanced (plain_of b image counts) h n r) where
@@ -86,13 +96,7 @@ module _ (b : Position) (ends : Ends) (image : Image) (counts : List ℕ) (r : R
   few = let l = inside in let most = (small b.log k.stands.range).harts in omega (arith, l, most)
 
   pub counted : h < length counts
-  counted =
-      let l = inside in
-      let sized = (reached image b k.at k.stands).going.good.sound.sized in
-      let harts_size = sized.harts_size in
-      let counts_size = sized.counts_size in
-      let same = ap length k.reaches.counts in
-      omega (arith, l, harts_size, counts_size, same)
+  counted = let l = inside in let size = counts_size b ends image counts k in omega (arith, l, size)
 
   -- the board stands behind the leg
   pub led_there : Stands image b part.led.at

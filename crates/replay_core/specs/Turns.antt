@@ -3,7 +3,7 @@ use Rattle.std.specs.Prelude.{ℕ, ◌≡◌, List, length, slice_get, Some}
 use Rattle.elf_image.specs.Image.{Image}
 use Rattle.flat_machine.specs.State.{FlatState}
 use Rattle.replay_model.specs.State.{Replay}
-use Rattle.run_model.specs.Run.{Run}
+use Rattle.run_model.specs.Run.{Run, number_of}
 use Rattle.board_backing.specs.declared.ends.Ends.{Ends}
 use Rattle.board_backing.specs.Ends.{HasPlaces}
 use Rattle.replay_parts.specs.Boards.{Plain}
@@ -43,10 +43,6 @@ pub record Keeps (b : Position) (ends : Ends) (p : Plain) : Type 0 where
   pub stands : Stands p.image b at
   pub reaches : Reaches p at
   pub has_places : HasPlaces ends (length b.log.streams) (length at.flat.memory)
-
--- the number of a run's hart
-abbrev pub number_of : Run → ℕ
-number_of r = r.hart.csrs.hart
 
 -- the run is its hart's part of the board, advanced since the hart's last turn
 abbrev pub IsPartMoved : Plain → Run → Type 0

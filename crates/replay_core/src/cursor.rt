@@ -42,6 +42,14 @@ impl Cursor {
         })
     }
 
+    /// A hart's place in its stream.
+    pub(crate) fn place(&self, hart: usize) -> usize
+        requires { hart < length self.now.places }
+        ensures { result ≡ slice_index self.now.places hart }
+    {
+        self.places[hart]
+    }
+
     fn is_next(&self, page: u32, seq: u32) -> bool
         ensures { result ≡ is_number seq (slice_get self.now.numbers page) }
     {

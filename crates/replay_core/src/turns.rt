@@ -1,15 +1,19 @@
 //! A replay's board, to which the harts come for their turns.
 
-ghost use Rattle.std.specs.Prelude.{◌≡◌, ◌<◌, IfOk};
+ghost use Rattle.std.specs.Prelude.{◌≡◌, ◌≤◌, ◌<◌, length, slice_index, IfOk};
+ghost use Rattle.flat_machine.specs.State.{FlatState};
+ghost use Rattle.replay_model.specs.State.{Replay};
+ghost use Rattle.run_model.specs.Run.{number_of};
 ghost use Rattle.replay_parts.specs.Boards.{first_board, state_of};
+ghost use Rattle.replay_parts.specs.Laws.{Reaches};
 ghost use Rattle.replay_core.specs.Standing.{IsAt};
-ghost use Rattle.replay_core.specs.Turns.{AreParts, HasTurn, IsPartMoved, number_of, pace_of, told};
+ghost use Rattle.replay_core.specs.Turns.{AreParts, HasTurn, IsPartMoved, pace_of, told};
 
-use crate::position::Position;
+use crate::position::{Position, harts_of};
 use crate::replaying::Replaying;
 use crate::stage::Stage;
 use crate::went::{Pace, Went};
-use board_backing::Ends;
+use board_backing::{Ends, number_of};
 use elf_image::Image;
 use hart_run::HartRun;
 use log_order::Orderly;
@@ -37,16 +41,6 @@ impl Model for ReplayBoard {
     ghost view = { λ b. plain_of b.board b.image.value b.counts.items };
 
     ghost invariant = { λ b. Keeps b.board b.ends (plain_of b.board b.image.value b.counts.items) };
-}
-
-/// The number of a run's hart.
-fn number_of(run: &HartRun) -> u8
-    ensures { number_of run.now < MAX_HARTS → result ≡ number_of run.now }
-{
-    match run.hart().csr(0xf14) {
-        Some(number) => u8::try_from(number).unwrap_or(0),
-        None => 0,
-    }
 }
 
 /// The pace of a hart by what comes of its next item.
@@ -86,14 +80,41 @@ impl ReplayBoard {
         Ok((board, runs))
     }
 
+    /// The number of harts.
+    pub fn harts(&self) -> u8
+        ensures number { result ≡ length self.now.log.streams }
+        ensures few { result ≤ MAX_HARTS }
+        ensures reached { (s : Replay FlatState) × Reaches self.now s }
+    {
+        harts_of(self.board.log.log())
+    }
+
+    /// The place of a hart in its stream.
+    pub fn place(&self, hart: u8) -> usize
+        requires { hart < length self.now.log.streams }
+        ensures { result ≡ slice_index self.now.places hart }
+    {
+        self.board.cursor.place(usize::from(hart))
+    }
+
+    /// The count that a hart's turns have committed.
+    pub fn count(&self, hart: u8) -> u64
+        requires { hart < length self.now.log.streams }
+        ensures { result ≡ slice_index self.now.counts hart }
+    {
+        self.counts[usize::from(hart)]
+    }
+
     /// A turn of the run's hart: the moves that it made since its last turn are committed, and its entries at its
     /// count are made, while it can. It takes no memory.
     pub fn turn(&mut self, run: &mut HartRun) -> Pace
         requires { IsPartMoved self.old run.old }
-        ensures { HasTurn self.old self.new run.old run.new (told result) }
+        ensures turned { HasTurn self.old self.new run.old run.new (told result) }
+        ensures number { number_of run.new ≡ number_of run.old }
     {
+        let board = &mut self.board;
         let hart = number_of(run);
-        let went = self.board.make_all(run, hart);
+        let went = board.make_all(run, hart);
         let count = run.count();
         self.counts[usize::from(hart)] = count;
         pace_of(went, self.board.until(count, hart))
@@ -102,7 +123,8 @@ impl ReplayBoard {
     /// The stage of the board and its harts' runs, in their order. It takes no memory.
     pub fn stage(self, runs: Vec<HartRun>) -> Stage
         requires { AreParts self runs.items }
-        ensures { IsAt self.image result (state_of self) }
+        ensures at { IsAt self.image result (state_of self) }
+        ensures log { result.board.log ≡ self.log }
     {
         let ReplayBoard { board, ends, .. } = self;
         Stage {

@@ -16,7 +16,7 @@ use Rattle.flat_machine.specs.declared.results.Step.{Step}
 use Rattle.replay_model.specs.Board.{board}
 use Rattle.replay_model.specs.State.{Replay}
 use Rattle.replay_model.specs.Items.{step}
-use Rattle.run_model.specs.Run.{Run}
+use Rattle.run_model.specs.Run.{Run, number_of}
 use Rattle.run_model.specs.Numbers.{AreNumbered}
 use Rattle.run_model.specs.Legs.{Runs, DifferFor}
 use Rattle.run_model.proofs.Numbers.{numbered_first, numbers_kept}
@@ -40,7 +40,7 @@ log_unit log n size u some n_is sized whole =
     ∙ mul-div_cancel_left (unit_of log) {n = n} there
 
 -- the state of a board, as one that was reached
-goes_there : (p : Plain) (s : Replay FlatState) → (r : Reaches p s) → Going p.log p.image r.replayable (state_of p)
+pub goes_there : (p : Plain) (s : Replay FlatState) → (r : Reaches p s) → Going p.log p.image r.replayable (state_of p)
 goes_there p s r = subst (Going p.log p.image r.replayable) (sym (states_are p s r)) (reached_goes p s r)
 
 pub parts_have_unit : PartsHaveUnit
@@ -119,3 +119,6 @@ parts_are_numbered p s h n run r part =
     let there = numbers_along p.log (first_replay p.log p.image) s r.obeys.0 first r.obeys.2 in
     numbers_led (unit_of p.log) h n (state_of p) part.led.at (subst (λ (x : Replay FlatState). AreNumbered x.flat) (sym (states_are p s r)) there) part.led.runs h
     run.hart part.led.agrees.hart
+
+pub part_number : (p : Plain) (s : Replay FlatState) (h : ℕ) (run : Run) → Reaches p s → IsPart p h run → number_of run ≡ h
+part_number p s h run r part = parts_are_numbered p s h 0 run r (parts_unmoved p s h run r part)

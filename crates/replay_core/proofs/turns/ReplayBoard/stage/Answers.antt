@@ -15,8 +15,8 @@ invariant_of-result c = (
   ),
 )
 
-pub returns : goal.returns
-returns c =
+pub returns-clause-at : goal.returns-clause-at
+returns-clause-at c =
     subst (λ (z : Plain). IsAt z.image (record { board = c.self.inside.board; runs = c.args.runs; ends = c.self.inside.ends }) (state_of z)) c.self.view_is
     (staged (record { board = c.self.inside.board; runs = c.args.runs; ends = c.self.inside.ends }) c.self.inside.image.value c.self.inside.counts.items
     c.self.invariant (subst (λ (z : Plain). AreParts z c.args.runs.items) (sym c.self.view_is) c.requires))
