@@ -30,7 +30,7 @@ use Rattle.replay_core.specs.Items.{after}
 use Rattle.replay_core.specs.declared.position.Position.{Position}
 use Rattle.replay_core.specs.Standing.{IsAt, IsSame, LeadsOn, MakesMoves, RunsOn}
 use Rattle.replay_core.specs.Stories.{moves_between, moves_of}
-use Rattle.replay_core.specs.Telling.{HasNoted, IsQuiet, NotesItem, NotesOn, SameAim, notes_at, seen_of}
+use Rattle.replay_core.specs.Telling.{HasAll, HasNoted, IsQuiet, NotesItem, NotesOn, SameAim, TellsOn, notes_at, seen_of}
 use Rattle.replay_core.proofs.MovesTold.{before_them, moves_append, moves_count, next_of_them, none_yet, other_moves, own_moves, past_them, sees_fetched, step_tells}
 use Rattle.replay_core.proofs.MovesTold.{Tells}
 use Rattle.replay_core.proofs.StateAfterItem.{reached, run_unit}
@@ -280,6 +280,13 @@ item_noted old new h was r n k leads log_is there then_there aim item image s ha
   ],
 )
 
+-- and its note, where none is missed
+pub item_told : (old new : Replaying) (h : ℕ) (was r : Run) (n k : Notes) → LeadsOn old new h → new.board.log ≡ old.board.log
+    → slice_get old.runs.items h ≡ Some was → slice_get new.runs.items h ≡ Some r → SameAim n k → HasAll n k (NotesItem n k h (seen_of was) r)
+    → TellsOn old new n k
+item_told old new h was r n k leads log_is there then_there aim item none =
+    let all = item none in (all.0, item_noted old new h was r n k leads log_is there then_there aim all.1)
+
 -- notes of stages, one after the other
 pub noted_on : (a b c : Replaying) (l m n : Notes) → NotesOn a b l m → NotesOn b c m n → NotesOn a c l n
 noted_on a b c l m n one two image s has = let t = one image s has in two image t.0 t.1
@@ -292,3 +299,13 @@ aim_on l m n one two = record { hart = two.hart ∙ one.hart; from = two.from �
 
 pub noted_here : (a : Replaying) (n : Notes) → NotesOn a a n n
 noted_here a n image s has = (s, has)
+
+pub told_on : (a b c : Replaying) (l m n : Notes) → TellsOn a b l m → TellsOn b c m n → TellsOn a c l n
+told_on a b c l m n one two none =
+    let last = two none in let first = one last.0 in (first.0, noted_on a b c l m n first.1 last.1)
+
+pub told_by : (a b : Replaying) (n : Notes) → NotesOn a b n n → TellsOn a b n n
+told_by a b n on none = (none, on)
+
+pub told_here : (a : Replaying) (n : Notes) → TellsOn a a n n
+told_here a n = told_by a a n (noted_here a n)

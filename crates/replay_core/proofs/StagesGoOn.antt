@@ -22,7 +22,9 @@ use Rattle.replay_core.specs.declared.position.Position.{Position}
 use Rattle.replay_core.specs.declared.replaying.Replaying.{Replaying}
 use Rattle.replay_core.specs.declared.went.Went.{Went}
 use Rattle.replay_core.specs.Items.{IsStill, after, answer_of, went_of}
-use Rattle.replay_core.specs.Standing.{Stands, IsAt, IsSame, IsSomewhere, GoesOn, LeadsOn, AnswersAt, HasNoItem, HasGone, CanGoNowhere, left}
+use Rattle.replay_core.specs.Standing.{Stands, IsAt, IsSame, IsSomewhere, GoesOn, LeadsOn, AnswersAt, HasNoItem, HasGone, CanGoNowhere, ComesTo, left}
+use Rattle.replay_core.specs.Ends.{IsOutcomeOf}
+use Rattle.replay_core.specs.declared.outcome.Outcome.{Outcome}
 use Rattle.board_backing.proofs.EndLists.{all_mapped}
 use Rattle.replay_core.proofs.StateAfterItem.{reached}
 use Rattle.replay_core.proofs.ItemsLeft.{done, within, item_grows}
@@ -193,3 +195,8 @@ pub has_gone : (made : Bool) (old new : Replaying) (h : ℕ) (answer : Went) →
     → (IsTrue made → IsStill answer → ⊥) → HasGone made old new
 has_gone true old new h answer x there answers leads log_is same off on = has_item old new h answer x there answers leads log_is (on refl)
 has_gone false old new h answer x there answers leads log_is same off on = same (off refl)
+
+-- what a stage comes to that another goes on to, that one comes to
+pub comes_on : (old new : Replaying) (answer : Outcome) → GoesOn old new → new.board.log ≡ old.board.log → ComesTo new answer → ComesTo old answer
+comes_on old new answer on log_is comes image s at =
+    let t = on image s at in subst (λ log. IsOutcomeOf log image answer) log_is (comes image t.0 t.1)

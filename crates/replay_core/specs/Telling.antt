@@ -42,6 +42,10 @@ pub record SameAim (old new : Notes) : Type 0 where
   pub from : new.from ≡ old.from
   pub to : new.to ≡ old.to
 
+-- where no move is missed, none was before, and so it is
+abbrev pub HasAll : Notes → Notes → Type 0 → Type 0
+HasAll old new is_so = new.missed ≡ false → (old.missed ≡ false) × is_so
+
 -- the notes have what an order that led to this state of the stage tells of their hart
 pub record HasNoted (image : Image) (stage : Replaying) (notes : Notes) (s : Replay FlatState) : Type 0 where
   pub at : IsAt image stage s
@@ -53,3 +57,7 @@ pub record HasNoted (image : Image) (stage : Replaying) (notes : Notes) (s : Rep
 abbrev pub NotesOn : Replaying → Replaying → Notes → Notes → Type 0
 NotesOn old new before after =
     (image : Image) (s : Replay FlatState) → HasNoted image old before s → (t : Replay FlatState) × HasNoted image new after t
+
+-- and so it is where no move is missed
+abbrev pub TellsOn : Replaying → Replaying → Notes → Notes → Type 0
+TellsOn old new before after = HasAll before after (NotesOn old new before after)

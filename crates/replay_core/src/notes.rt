@@ -1,24 +1,25 @@
 //! What is noted of one hart's moves.
 
-ghost use Rattle.std.specs.Prelude.{◌≡◌, ◌<◌, OnOk};
+ghost use Rattle.std.specs.Prelude.{◌≡◌, ◌<◌, []};
 ghost use Rattle.rv_hart.specs.Effects.{entry_effect};
 ghost use Rattle.rv_hart.specs.Moves.{trap_of};
 ghost use Rattle.flat_machine.specs.Moves.{move_of};
 ghost use Rattle.flat_machine.specs.Runs.{register_written, step_by as step_of_move};
-ghost use Rattle.replay_core.specs.Telling.{IsQuiet, NotesItem, SameAim, notes_at, seen_of};
+ghost use Rattle.replay_core.specs.Telling.{HasAll, IsQuiet, NotesItem, SameAim, notes_at, seen_of};
 
 use flat_machine::Step;
 use hart_run::HartRun;
 use rv_hart::Hart;
-use shared_types::NoMemory;
+use std::alloc::Global;
 
-/// The moves of a hart from one count on, below another, as far as they are made.
+/// The moves of a hart from one count on, below another, as far as they are made. Once memory is refused one is missed.
 #[derive(Drop)]
 pub(crate) struct Notes {
     pub(crate) hart: u8,
     pub(crate) from: u64,
     pub(crate) to: u64,
     pub(crate) steps: Vec<Step>,
+    pub(crate) missed: bool,
 }
 
 /// A hart and its count before an item, and the word that it may fetch.
@@ -85,6 +86,25 @@ fn step_by(before: &Hart, word: Option<u32>, after: &Hart) -> Step
 }
 
 impl Notes {
+    /// Before any move is made.
+    pub(crate) fn start(alloc: Global, hart: u8, from: u64, to: u64) -> Notes
+        ensures aim { (result.hart ≡ hart) × ((result.from ≡ from) × (result.to ≡ to)) }
+        ensures nothing { result.steps.items ≡ [] }
+    {
+        Notes {
+            hart,
+            from,
+            to,
+            steps: Vec::new(alloc),
+            missed: false,
+        }
+    }
+
+    /// Of no move: they take no memory.
+    pub(crate) fn none(alloc: Global) -> Notes {
+        Notes::start(alloc, 0, 0, 0)
+    }
+
     /// Whether a move of a hart at this count is to be noted.
     pub(crate) fn wants(&self, hart: u8, count: u64) -> bool
         ensures { result ≡ notes_at self.now hart count }
@@ -104,22 +124,16 @@ impl Notes {
     }
 
     /// Notes what came of a hart's item, where that is a move that is to be noted.
-    pub(crate) fn note(&mut self, hart: u8, before: &Seen, run: &HartRun) -> Result<(), NoMemory>
+    pub(crate) fn note(&mut self, hart: u8, before: &Seen, run: &HartRun)
         ensures aim { SameAim self.old self.new }
-        ensures noted { OnOk result (NotesItem self.old self.new hart before.now run.now) }
+        ensures noted { HasAll self.old self.new (NotesItem self.old self.new hart before.now run.now) }
     {
-        if run.count() == before.count {
-            return Ok(());
+        if run.count() == before.count || !self.wants(hart, before.count) {
+            return;
         }
-        if !self.wants(hart, before.count) {
-            return Ok(());
-        }
-        match self
-            .steps
-            .push(step_by(&before.hart, before.word, run.hart()))
-        {
-            Ok(()) => Ok(()),
-            Err(_) => Err(NoMemory),
+        let step = step_by(&before.hart, before.word, run.hart());
+        if self.steps.push(step).is_err() {
+            self.missed = true;
         }
     }
 }

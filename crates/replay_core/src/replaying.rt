@@ -1,12 +1,12 @@
 //! A replay's board and the runs of its harts, one item after the other.
 
-ghost use Rattle.std.specs.Prelude.{◌≡◌, ◌<◌, ◌==◌, ◌&&◌, ◌||◌, not, length, false, IfOk, IfSome, IsTrue, OnOk};
+ghost use Rattle.std.specs.Prelude.{◌≡◌, ◌<◌, ◌==◌, ◌&&◌, ◌||◌, not, length, false, IfOk, IfSome, IsTrue};
 ghost use Rattle.std.specs.List.{list_all};
 ghost use Rattle.replay_model.specs.Outcome.{is_stop, is_limit, same};
 ghost use Rattle.replay_core.specs.Items.{IsStill, rule_in};
 ghost use Rattle.replay_core.specs.Standing.{Begins, IsSomewhere, AnswersAt, LeadsOn, IsSame, GoesOn, HasNoItem, HasGone, CanGoNowhere, left};
 ghost use Rattle.replay_core.specs.Standing.{FindsDiverged, AgreesOnCause, EndsAt, TellsDiverged, ComesTo};
-ghost use Rattle.replay_core.specs.Telling.{NotesOn, SameAim};
+ghost use Rattle.replay_core.specs.Telling.{NotesOn, SameAim, TellsOn};
 ghost use Rattle.run_model.specs.Run.{Run};
 
 use crate::notes::{Notes, look};
@@ -111,85 +111,84 @@ impl Replaying {
     }
 
     /// One item of a hart, and the note of it. Whether it was made.
-    fn go_noting(&mut self, hart: u8, notes: &mut Notes) -> Result<bool, NoMemory>
+    fn go_noting(&mut self, hart: u8, notes: &mut Notes) -> bool
         requires at { IsSomewhere self.old }
         requires hart { hart < length self.old.runs.items }
         ensures on { GoesOn self.old self.new }
         ensures log { self.new.board.log ≡ self.old.board.log }
-        ensures gone { IfOk result (λ made. HasGone made self.old self.new) }
-        ensures stuck { IfOk result (λ made. made ≡ false → HasNoItem self.new hart) }
+        ensures gone { HasGone result self.old self.new }
+        ensures stuck { result ≡ false → HasNoItem self.new hart }
         ensures aim { SameAim notes.old notes.new }
-        ensures noted { OnOk result (NotesOn self.old self.new notes.old notes.new) }
+        ensures noted { TellsOn self.old self.new notes.old notes.new }
     {
         let before = look(&self.runs[usize::from(hart)]);
         let went = self.go(hart);
-        notes.note(hart, &before, &self.runs[usize::from(hart)])?;
-        Ok(is_made(went))
+        notes.note(hart, &before, &self.runs[usize::from(hart)]);
+        is_made(went)
     }
 
     /// A leg of a hart, and the item behind it. Whether any was made.
-    fn go_leg(&mut self, hart: u8, notes: &mut Notes) -> Result<bool, NoMemory>
+    fn go_leg(&mut self, hart: u8, notes: &mut Notes) -> bool
         requires at { IsSomewhere self.old }
         requires hart { hart < length self.old.runs.items }
         ensures on { GoesOn self.old self.new }
         ensures log { self.new.board.log ≡ self.old.board.log }
-        ensures gone { IfOk result (λ went. HasGone went self.old self.new) }
-        ensures stuck { IfOk result (λ went. went ≡ false → HasNoItem self.new hart) }
+        ensures gone { HasGone result self.old self.new }
+        ensures stuck { result ≡ false → HasNoItem self.new hart }
         ensures aim { SameAim notes.old notes.new }
-        ensures noted { OnOk result (NotesOn self.old self.new notes.old notes.new) }
+        ensures noted { TellsOn self.old self.new notes.old notes.new }
     {
         let ran = self.leg(hart, notes);
-        let made = self.go_noting(hart, notes)?;
-        Ok(either(made, ran))
+        let made = self.go_noting(hart, notes);
+        either(made, ran)
     }
 
     /// A hart goes on as far as it can. Whether it went at all.
-    fn go_far(&mut self, hart: u8, notes: &mut Notes) -> Result<bool, NoMemory>
+    fn go_far(&mut self, hart: u8, notes: &mut Notes) -> bool
         requires at { IsSomewhere self.old }
         requires hart { hart < length self.old.runs.items }
         ensures on { GoesOn self.old self.new }
         ensures log { self.new.board.log ≡ self.old.board.log }
-        ensures gone { IfOk result (λ went. HasGone went self.old self.new) }
-        ensures stuck { OnOk result (HasNoItem self.new hart) }
+        ensures gone { HasGone result self.old self.new }
+        ensures stuck { HasNoItem self.new hart }
         ensures aim { SameAim notes.old notes.new }
-        ensures noted { OnOk result (NotesOn self.old self.new notes.old notes.new) }
+        ensures noted { TellsOn self.old self.new notes.old notes.new }
     {
         let mut went = false;
-        'items: while self.go_leg(hart, notes)? {
+        'items: while self.go_leg(hart, notes) {
             went = true;
         }
-        Ok(went)
+        went
     }
 
     /// Each hart goes on as far as it can. Whether any went.
-    fn sweep(&mut self, notes: &mut Notes) -> Result<bool, NoMemory>
+    fn sweep(&mut self, notes: &mut Notes) -> bool
         requires { IsSomewhere self.old }
         ensures on { GoesOn self.old self.new }
         ensures log { self.new.board.log ≡ self.old.board.log }
-        ensures less { IfOk result (λ went. IsTrue went → left self.new < left self.old) }
-        ensures stuck { IfOk result (λ went. went ≡ false → CanGoNowhere self.new) }
+        ensures less { IsTrue result → left self.new < left self.old }
+        ensures stuck { result ≡ false → CanGoNowhere self.new }
         ensures aim { SameAim notes.old notes.new }
-        ensures noted { OnOk result (NotesOn self.old self.new notes.old notes.new) }
+        ensures noted { TellsOn self.old self.new notes.old notes.new }
     {
         let mut went = false;
         for hart in 0..harts_of(self.board.log.log()) {
-            let far = self.go_far(hart, notes)?;
+            let far = self.go_far(hart, notes);
             went = either(far, went);
         }
-        Ok(went)
+        went
     }
 
     /// The harts go on until none can.
-    pub(crate) fn run_out(&mut self, notes: &mut Notes) -> Result<(), NoMemory>
+    pub(crate) fn run_out(&mut self, notes: &mut Notes)
         requires { IsSomewhere self.old }
         ensures on { GoesOn self.old self.new }
         ensures log { self.new.board.log ≡ self.old.board.log }
-        ensures stuck { OnOk result (CanGoNowhere self.new) }
+        ensures stuck { CanGoNowhere self.new }
         ensures aim { SameAim notes.old notes.new }
-        ensures noted { OnOk result (NotesOn self.old self.new notes.old notes.new) }
+        ensures noted { TellsOn self.old self.new notes.old notes.new }
     {
-        'sweeps: while self.sweep(notes)? {}
-        Ok(())
+        'sweeps: while self.sweep(notes) {}
     }
 
     /// The least hart that has diverged, with its rule. Nothing is changed: no hart can go.
@@ -258,6 +257,16 @@ impl Replaying {
                 }
             }
         }
+    }
+
+    /// The harts go on until none can: what the replay comes to. It takes no memory.
+    pub(crate) fn finish(mut self) -> Outcome
+        requires { IsSomewhere self }
+        ensures { ComesTo self result }
+    {
+        let mut notes = Notes::none(*self.runs.allocator());
+        self.run_out(&mut notes);
+        self.outcome()
     }
 
     /// The hart has diverged, with this rule.

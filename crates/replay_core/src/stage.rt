@@ -52,6 +52,14 @@ impl Stage {
         self.replaying.go(hart)
     }
 
+    /// The harts go on until none can: what the replay comes to. It takes no memory.
+    pub fn finish(self) -> Outcome
+        ensures { ComesTo self result }
+    {
+        let Stage { replaying } = self;
+        replaying.finish()
+    }
+
     /// What the replay came to. It takes no memory.
     pub fn outcome(self) -> Outcome
         requires { CanGoNowhere self }

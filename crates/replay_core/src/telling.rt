@@ -35,14 +35,12 @@ pub fn story(
     ensures nobody { length orderly.streams ≤ hart → IfOk result (λ told. told.steps ≡ []) }
 {
     let mut replaying = Replaying::start(alloc, orderly, image)?;
-    let mut notes = Notes {
-        hart,
-        from,
-        to,
-        steps: Vec::new(alloc),
-    };
-    replaying.run_out(&mut notes)?;
-    let Notes { steps, .. } = notes;
+    let mut notes = Notes::start(alloc, hart, from, to);
+    replaying.run_out(&mut notes);
+    let Notes { steps, missed, .. } = notes;
+    if missed {
+        return Err(NoMemory);
+    }
     Ok(Told {
         steps: Steps::of(steps),
         outcome: replaying.outcome(),
@@ -54,6 +52,6 @@ pub fn replay_one(alloc: Global, orderly: Orderly, image: &Image) -> Result<Outc
     requires { orderly.pages ≡ image.now.pages }
     ensures { IfOk result (IsOutcomeOf orderly image.now) }
 {
-    let Told { outcome, .. } = story(alloc, orderly, image, 0, 0, 0)?;
-    Ok(outcome)
+    let replaying = Replaying::start(alloc, orderly, image)?;
+    Ok(replaying.finish())
 }

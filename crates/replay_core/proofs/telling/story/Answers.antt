@@ -1,4 +1,4 @@
-use Rattle.std.proofs.Common.{◌∙◌, sym, subst}
+use Rattle.std.proofs.Common.{◌∙◌, sym, subst, arith}
 use Rattle.replay_law.specs.Laws.{first_replay}
 use Rattle.replay_core.specs.Ends.{IsOutcomeOf}
 use Rattle.replay_core.specs.Stories.{IsStoryOf}
@@ -19,14 +19,20 @@ returns-clause-outcome c =
 
 pub returns-clause-steps : goal.returns-clause-steps
 returns-clause-steps c =
+    let aim = c.start-notes.ensures.aim in
+    let told =
+    story_told c.args.orderly c.args.image.now c.in_ok-replaying.replaying c.run_out.new.self c.start-notes.result c.run_out.new.notes
+    c.in_ok-replaying.ensures (c.run_out.ensures.noted c.if-missed.false).1 c.run_out.ensures.log c.start-notes.ensures.nothing c.run_out.ensures.aim
+    c.run_out.ensures.stuck in
     subst (IsStoryOf c.args.orderly c.args.image.now c.args.hart c.args.from c.args.to) (sym c.of.ensures)
-    (story_told c.args.orderly c.args.image.now c.in_ok-replaying.replaying c.run_out.new.self
-    (record { hart = c.args.hart; from = c.args.from; to = c.args.to; steps = c.new.result }) c.run_out.new.notes c.in_ok-replaying.ensures
-    c.in_ok-run_out.ensures.noted c.run_out.ensures.log c.new.ensures.items c.run_out.ensures.aim c.in_ok-run_out.ensures.stuck)
+    (subst (λ k. IsStoryOf c.args.orderly c.args.image.now c.args.hart c.args.from k c.run_out.new.notes.steps.items) aim.1.1
+    (subst (λ k. IsStoryOf c.args.orderly c.args.image.now c.args.hart k c.start-notes.result.to c.run_out.new.notes.steps.items) aim.1.0
+    (subst (λ k. IsStoryOf c.args.orderly c.args.image.now k c.start-notes.result.from c.start-notes.result.to c.run_out.new.notes.steps.items) aim.0 told)))
 
 pub returns-clause-nobody : goal.returns-clause-nobody
 returns-clause-nobody c = λ past.
+    let hart = c.start-notes.ensures.aim.0 in
     c.of.ensures
-    ∙ nobody_told c.args.orderly c.args.image.now c.in_ok-replaying.replaying c.run_out.new.self
-    (record { hart = c.args.hart; from = c.args.from; to = c.args.to; steps = c.new.result }) c.run_out.new.notes c.in_ok-replaying.ensures
-    c.in_ok-run_out.ensures.noted c.run_out.ensures.log c.new.ensures.items c.run_out.ensures.aim past
+    ∙ nobody_told c.args.orderly c.args.image.now c.in_ok-replaying.replaying c.run_out.new.self c.start-notes.result c.run_out.new.notes
+    c.in_ok-replaying.ensures (c.run_out.ensures.noted c.if-missed.false).1 c.run_out.ensures.log c.start-notes.ensures.nothing c.run_out.ensures.aim
+    (omega (arith, past, hart))

@@ -1,6 +1,6 @@
 use Rattle.std.proofs.Common.{◌∙◌, false, refl, subst}
 use Rattle.replay_core.specs.Standing.{HasGone}
-use Rattle.replay_core.proofs.NotesKept.{aim_on, noted_here, noted_on, same_aim}
+use Rattle.replay_core.proofs.NotesKept.{aim_on, told_here, told_on, same_aim}
 use Rattle.replay_core.proofs.StagesGoOn.{gone_less, gone_then, hart_on, on_then, somewhere_on}
 use Rattle.replay_core.proofs.replaying.Replaying.go_far.Goals as goal
 
@@ -10,7 +10,7 @@ items-init c = record {
   log = refl;
   gone = (refl, (refl, refl));
   aim = same_aim c.args.notes.now;
-  noted = noted_here c.args.self.now c.args.notes.now;
+  noted = told_here c.args.self.now c.args.notes.now;
 }
 
 pub go_leg-requires-clause-at : goal.go_leg-requires-clause-at
@@ -21,24 +21,18 @@ go_leg-requires-clause-hart c =
     hart_on c.args.self.now c.items.self c.args.hart c.requires.at (somewhere_on c.args.self.now c.items.self c.items.invariant.on c.requires.at)
     c.items.invariant.log c.requires.hart
 
-pub returns-in_err-go_leg-clause-on : goal.returns-in_err-go_leg-clause-on
-returns-in_err-go_leg-clause-on c = on_then c.args.self.now c.items.self c.go_leg.new.self c.items.invariant.on c.go_leg.ensures.on
-
-pub returns-in_err-go_leg-clause-aim : goal.returns-in_err-go_leg-clause-aim
-returns-in_err-go_leg-clause-aim c = aim_on c.args.notes.now c.items.notes c.go_leg.new.notes c.items.invariant.aim c.go_leg.ensures.aim
-
 pub items-smaller : goal.items-smaller
-items-smaller c = subst (λ went. HasGone went c.items.self c.go_leg.new.self) c.if-branch.true c.in_ok-go_leg.ensures.gone
+items-smaller c = subst (λ went. HasGone went c.items.self c.go_leg.new.self) c.items-test.true c.go_leg.ensures.gone
 
 pub items-preserved : goal.items-preserved
 items-preserved c = record {
   on = on_then c.args.self.now c.items.self c.go_leg.new.self c.items.invariant.on c.go_leg.ensures.on;
   log = c.go_leg.ensures.log ∙ c.items.invariant.log;
   gone = gone_less c.items.went c.args.self.now c.items.self c.go_leg.new.self c.items.invariant.gone
-      (subst (λ went. HasGone went c.items.self c.go_leg.new.self) c.if-branch.true c.in_ok-go_leg.ensures.gone);
+      (subst (λ went. HasGone went c.items.self c.go_leg.new.self) c.items-test.true c.go_leg.ensures.gone);
   aim = aim_on c.args.notes.now c.items.notes c.go_leg.new.notes c.items.invariant.aim c.go_leg.ensures.aim;
-  noted = noted_on c.args.self.now c.items.self c.go_leg.new.self c.args.notes.now c.items.notes c.go_leg.new.notes c.items.invariant.noted
-      c.in_ok-go_leg.ensures.noted;
+  noted = told_on c.args.self.now c.items.self c.go_leg.new.self c.args.notes.now c.items.notes c.go_leg.new.notes c.items.invariant.noted
+      c.go_leg.ensures.noted;
 }
 
 pub returns : goal.returns
@@ -46,9 +40,9 @@ returns c = record {
   on = on_then c.args.self.now c.items.self c.go_leg.new.self c.items.invariant.on c.go_leg.ensures.on;
   log = c.go_leg.ensures.log ∙ c.items.invariant.log;
   gone = gone_then c.items.went false c.args.self.now c.items.self c.go_leg.new.self c.items.invariant.gone
-      (subst (λ went. HasGone went c.items.self c.go_leg.new.self) c.if-branch.false c.in_ok-go_leg.ensures.gone);
-  stuck = c.in_ok-go_leg.ensures.stuck c.if-branch.false;
+      (subst (λ went. HasGone went c.items.self c.go_leg.new.self) c.items-test.false c.go_leg.ensures.gone);
+  stuck = c.go_leg.ensures.stuck c.items-test.false;
   aim = aim_on c.args.notes.now c.items.notes c.go_leg.new.notes c.items.invariant.aim c.go_leg.ensures.aim;
-  noted = noted_on c.args.self.now c.items.self c.go_leg.new.self c.args.notes.now c.items.notes c.go_leg.new.notes c.items.invariant.noted
-      c.in_ok-go_leg.ensures.noted;
+  noted = told_on c.args.self.now c.items.self c.go_leg.new.self c.args.notes.now c.items.notes c.go_leg.new.notes c.items.invariant.noted
+      c.go_leg.ensures.noted;
 }

@@ -1,6 +1,6 @@
 use Rattle.std.proofs.Common.{◌≡◌}
 use Rattle.replay_core.specs.Standing.{GoesOn, HasGone, left}
-use Rattle.replay_core.specs.Telling.{NotesOn, SameAim}
+use Rattle.replay_core.specs.Telling.{SameAim, TellsOn}
 use Rattle.replay_core.proofs.replaying.Replaying.go_far.Given as goal
 
 abbrev pub invariant-items : goal.invariant-items
@@ -9,7 +9,7 @@ invariant-items l = record {
   log : l.self.board.log ≡ l.initial.self.board.log;
   gone : HasGone l.went l.initial.self l.self;
   aim : SameAim l.initial.notes l.notes;
-  noted : NotesOn l.initial.self l.self l.initial.notes l.notes;
+  noted : TellsOn l.initial.self l.self l.initial.notes l.notes;
 }
 
 abbrev pub decreases-items : goal.decreases-items

@@ -1,8 +1,8 @@
 use Rattle.std.proofs.Common.{◌≡◌, Some, slice_get, ap, ◌∙◌, sym, subst, arith}
 use Rattle.std.specs.Prelude.{slice_index_or}
 use Rattle.std.proofs.lemmas.Option.{slice_get-get_or}
-use Rattle.replay_core.specs.Telling.{NotesItem}
-use Rattle.replay_core.proofs.NotesKept.{item_noted}
+use Rattle.replay_core.specs.Telling.{HasAll, NotesItem}
+use Rattle.replay_core.proofs.NotesKept.{item_told}
 use Rattle.replay_core.proofs.StagesGoOn.{hart_on, has_gone, has_no_item, on_item, somewhere_on}
 use Rattle.replay_core.proofs.replaying.Replaying.go_noting.Goals as goal
 
@@ -15,9 +15,6 @@ index-requires-2 c =
     let here = c.from-2.ensures in
     let size = c.go-went.new.self.runs.ok.0 in
     omega (arith, inside, here, size)
-
-pub returns-in_err-note-clause-on : goal.returns-in_err-note-clause-on
-returns-in_err-note-clause-on c = on_item c.args.self.now c.go-went.new.self c.args.hart c.go-went.ensures.at
 
 pub returns-clause-on : goal.returns-clause-on
 returns-clause-on c = on_item c.args.self.now c.go-went.new.self c.args.hart c.go-went.ensures.at
@@ -44,6 +41,7 @@ returns-clause-noted c =
     let then_there : slice_get c.go-went.new.self.runs.items c.args.hart ≡ Some c.index-2.result.now =
     slice_get-get_or c.go-went.new.self.runs.items c.args.hart c.index-2.result.now inside
     ∙ ap Some (ap (λ i. slice_index_or c.go-went.new.self.runs.items i c.index-2.result.now) (sym c.from-2.ensures) ∙ sym c.index-2.ensures) in
-    item_noted c.args.self.now c.go-went.new.self c.args.hart c.index.result.now c.index-2.result.now c.args.notes.now c.note.new.self
-    c.go-went.ensures.at c.go-went.ensures.log there then_there c.in_ok-note.ensures.aim
-    (subst (λ seen. NotesItem c.args.notes.now c.note.new.self c.args.hart seen c.index-2.result.now) c.look-before.ensures c.in_ok-note.ensures.noted)
+    item_told c.args.self.now c.go-went.new.self c.args.hart c.index.result.now c.index-2.result.now c.args.notes.now c.note.new.self
+    c.go-went.ensures.at c.go-went.ensures.log there then_there c.note.ensures.aim
+    (subst (λ seen. HasAll c.args.notes.now c.note.new.self (NotesItem c.args.notes.now c.note.new.self c.args.hart seen c.index-2.result.now))
+    c.look-before.ensures c.note.ensures.noted)
