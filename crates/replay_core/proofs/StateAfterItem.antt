@@ -1,14 +1,11 @@
 -- What a board stands for once a hart had an item.
-use Rattle.std.proofs.Common.{◌≡◌, ℕ, zero, suc, ◌*◌, ◌/◌, ◌<◌, ◌≤◌, ◌++◌, List, [], ◌∷◌, map, length, Option, Some, None}
+use Rattle.std.proofs.Common.{◌≡◌, ℕ, ◌≤◌, ◌++◌, List, [], ◌∷◌, map, length, Option, Some, None}
 use Rattle.std.proofs.Common.{refl, sym, ap, ap₂, ◌∙◌, subst, arith}
 use Rattle.std.proofs.lemmas.Option.{get_or_from_slice_get}
-use Rattle.std.proofs.Math.Nat.{mul-div_cancel_left}
 use Rattle.std.specs.Option.{option_map, option_map_or}
 use Rattle.elf_image.specs.Image.{Image}
 use Rattle.log_entry.specs.declared.log.Entry.{Entry}
-use Rattle.rv_words.specs.Limits.{page_bytes}
-use Rattle.log_entry.specs.Parts.{unit_of, units_of}
-use Rattle.log_entry.specs.declared.log.Log.{Log}
+use Rattle.log_entry.specs.Parts.{unit_of}
 use Rattle.order_rules.specs.Cursor.{Cursor, first_left, taken}
 use Rattle.flat_machine.specs.State.{FlatState}
 use Rattle.flat_machine.specs.declared.results.Step.{Step}
@@ -23,7 +20,6 @@ use Rattle.board_backing.specs.Backing as backings
 use Rattle.board_backing.specs.Backing.{Backs}
 use Rattle.replay_law.specs.Laws.{first_replay}
 use Rattle.replay_law.proofs.Timely.{Timely, timely}
-use Rattle.replay_law.proofs.Views.{shape_of}
 use Rattle.replay_parts.proofs.Advancing.{log_unit}
 use Rattle.replay_core.specs.declared.position.Position.{Position}
 use Rattle.replay_core.specs.declared.went.Went.{Went}

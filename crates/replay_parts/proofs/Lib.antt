@@ -1,4 +1,5 @@
 pub mod Within
 pub mod Led
 pub mod Turned
+pub mod Rising
 pub mod Advancing

@@ -160,7 +160,7 @@ module _ (log : Log) (image : Image) (is : IsReplayable log image) where
             omega (arith, one, other)
       ]
 
-  all_done : (s t : Replay FlatState) (xs : List (ℕ × Option (List Step))) → Going log image is s → Leads (step (board (unit_of log)) log) s xs t
+  pub all_done : (s t : Replay FlatState) (xs : List (ℕ × Option (List Step))) → Going log image is s → Leads (step (board (unit_of log)) log) s xs t
       → done s + length xs ≤ done t
   all_done s t [] going leads = let same = ap done leads in omega (arith, same)
   all_done s t (x ∷ xs) going leads =

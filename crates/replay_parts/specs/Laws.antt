@@ -1,5 +1,6 @@
 -- Laws of a replay's board as plain data (docs/replay.md).
-use Rattle.std.specs.Prelude.{ℕ, ◌≡◌, ◌≢◌, ◌<◌, ◌≤◌, List, length}
+use Rattle.std.specs.Prelude.{ℕ, ◌≡◌, ◌≢◌, ◌⊎◌, ◌+◌, ◌<◌, ◌≤◌, List, length}
+use Rattle.orders_law.specs.Orders.{total}
 use Rattle.elf_image.specs.Image.{Image}
 use Rattle.log_entry.specs.declared.log.Log.{Log}
 use Rattle.log_entry.specs.Parts.{unit_of}
@@ -35,6 +36,11 @@ FirstBoards = (log : Log) (image : Image) → IsReplayable log image → Reaches
 abbrev pub TurnsReach : Type 0
 TurnsReach = (old new : Plain) (s : Replay FlatState) (h n : ℕ) (told : Told) → Reaches old s → h < length old.log.streams
     → (turn : IsTurn old new h n told) → Reaches new turn.at
+
+-- and commits more, or nothing: then its hart had not moved
+abbrev pub TurnsRise : Type 0
+TurnsRise = (old new : Plain) (s : Replay FlatState) (h n : ℕ) (told : Told) → Reaches old s → h < length old.log.streams
+    → IsTurn old new h n told → (total old.places + total old.counts < total new.places + total new.counts) ⊎ ((n ≡ 0) × (new ≡ old))
 
 -- and leaves the part of every other hart
 abbrev pub PartsStay : Type 0

@@ -2,7 +2,7 @@
 //! and laws. The functions have no bodies: they promise the laws.
 #![tactic(auto)]
 
-ghost use Rattle.replay_parts.specs.Laws.{StatesAre, FirstBoards, TurnsReach, PartsStay, RunsGoOn};
+ghost use Rattle.replay_parts.specs.Laws.{StatesAre, FirstBoards, TurnsReach, TurnsRise, PartsStay, RunsGoOn};
 ghost use Rattle.replay_parts.specs.Laws.{PartsHaveUnit, PartsAreNumbered, PartsUnmoved, LegsAdvance};
 
 /// The state that plain data stand for, which nothing stores, is the one to which the turns led, in whatever order.
@@ -12,10 +12,11 @@ pub fn states_are()
     ensures first { FirstBoards }
 {}
 
-/// A turn of a hart leads to a board that stands for the state behind it, and leaves the parts of all others, and the
-/// runs that are these parts.
+/// A turn of a hart leads to a board that stands for the state behind it, commits more or nothing, and leaves the parts
+/// of all others, and the runs that are these parts.
 pub fn turns_stay()
     ensures reach { TurnsReach }
+    ensures rise { TurnsRise }
     ensures parts { PartsStay }
     ensures runs { RunsGoOn }
 {}

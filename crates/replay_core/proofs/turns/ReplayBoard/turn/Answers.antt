@@ -1,4 +1,4 @@
-use Rattle.std.proofs.Common.{◌≡◌, slice_set, sym, subst, arith}
+use Rattle.std.proofs.Common.{slice_set, sym, subst, arith}
 use Rattle.run_model.specs.Run.{number_of}
 use Rattle.run_model.specs.Agreement.{Agrees}
 use Rattle.replay_parts.specs.Boards.{Plain}
