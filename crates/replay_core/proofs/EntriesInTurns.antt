@@ -15,7 +15,8 @@ use Rattle.flat_machine.specs.State.{FlatState}
 use Rattle.flat_machine.specs.declared.results.Step.{Step}
 use Rattle.replay_model.specs.Board.{board, hart_access}
 use Rattle.replay_model.specs.State.{Replay}
-use Rattle.replay_model.specs.Items.{Item, Ended, Move, Makes, Verdict, HasEnded, Holds, CanGo, HasDiverged, item_at, goes, next_item, step, verdict, verdict_on}
+use Rattle.replay_model.specs.Items.{Item, Ended, Move, Makes, Verdict, HasEnded, Holds, CanGo, HasDiverged, item_at, goes, next_item, step, verdict}
+use Rattle.replay_model.specs.Items.{verdict_on}
 use Rattle.run_model.specs.Run.{Run}
 use Rattle.run_model.specs.Agreement.{Agrees, IsAhead}
 use Rattle.run_model.specs.declared.asked.Ahead.TheVariants as ahead

@@ -1,17 +1,21 @@
 -- A replay at its start.
-use Rattle.std.proofs.Common.{◌≡◌, ◌⊎◌, inl, inr, ℕ, zero, suc, ◌+◌, ◌/◌, max, List, [], ◌∷◌, ◌++◌, length, Some, slice_get, refl, sym, ap, ◌∙◌}
-use Rattle.std.proofs.Common.{subst, arith}
+use Rattle.std.proofs.Common.{◌≡◌, ℕ, ◌/◌, ◌<◌, max, List, [], map, length, slice_get, refl, sym, ap, ◌∙◌, subst, arith, zero-add}
 use Rattle.std.specs.Prelude.{IsTrue}
-use Rattle.std.proofs.lemmas.List.{length-append}
-use Rattle.std.proofs.lemmas.Option.{none-some, same_Some}
-use Rattle.elf_image.specs.Image.{Image}
+use Rattle.std.specs.List.{range_with_len}
+use Rattle.std.proofs.lemmas.List.{length-map}
+use Rattle.std.proofs.lemmas.List.FromFn.{length-range_with_len, get_or-range_with_len}
+use Rattle.std.proofs.lemmas.Option.{get_or_from_slice_get, slice_get_within}
+use Rattle.shared_types.proofs.Lists.{map_at}
+use Rattle.orders_law.specs.Orders.{below}
+use Rattle.orders_law.proofs.Below.{below_range, length_below}
+use Rattle.elf_image.specs.Image.{Image, IsWhole}
 use Rattle.log_entry.specs.declared.log.Log.{Log}
 use Rattle.log_entry.specs.Range.{in_range}
 use Rattle.order_rules.specs.Cursor as cursors
 use Rattle.order_rules.specs.Holders.{nobody}
-use Rattle.run_model.specs.Run.{Run}
-use Rattle.run_model.specs.Agreement.{IsFirst}
-use Rattle.hart_run.specs.Calls.{StartIsRight}
+use Rattle.run_model.specs.Run.{Run, run_at_start}
+use Rattle.run_model.specs.Agreement.{Agrees, IsFirst}
+use Rattle.run_model.proofs.Laws.{start_agrees}
 use Rattle.device_board.specs.State.{DevicesWithRoom, devices_at_start}
 use Rattle.board_backing.specs.declared.backing.Backing.{Backing}
 use Rattle.board_backing.specs.Backing.{BacksFirst}
@@ -21,27 +25,20 @@ use Rattle.replay_core.specs.declared.replaying.Replaying.{Replaying}
 use Rattle.board_backing.specs.Ends.{HasPlaces}
 use Rattle.replay_core.specs.Standing.{AgreeAtFirst, OrdinalsBelow, IsRoomy, Stands, IsAt}
 
--- what stands in a list with one more at its end
-last_or_before : {X : Type 0} (xs : List X) (y x : X) (i : ℕ) → slice_get (xs ++ y ∷ []) i ≡ Some x → (slice_get xs i ≡ Some x) ⊎ ((i ≡ length xs) × (y ≡ x))
-last_or_before [] y x zero e = inr (refl, same_Some _ _ e)
-last_or_before [] y x (suc i) e = absurd (none-some _ e)
-last_or_before (z ∷ xs) y x zero e = inl e
-last_or_before (z ∷ xs) y x (suc i) e = elim (last_or_before xs y x i e) [
-  | inl before ↦ inl before
-  | inr last ↦ inr (ap suc last.0, last.1)
-]
-
-pub one_run_more : (image : Image) (harts hart : ℕ) (runs more : List Run) (r : Run) → (length runs ≡ hart) × AgreeAtFirst image harts runs
-    → more ≡ runs ++ r ∷ [] → StartIsRight image harts hart r → (length more ≡ hart + 1) × AgreeAtFirst image harts more
-one_run_more image harts hart runs more r (long, agree) is agrees =
-    let size = ap length is in
-    let sum = length-append runs (r ∷ []) in (
-      omega (arith, size, sum, long),
-      λ h q at. elim (last_or_before runs r q h (ap (λ xs. slice_get xs h) (sym is) ∙ at)) [
-        | inl before ↦ agree h q before
-        | inr last ↦ subst (StartIsRight image harts h) last.1 (subst (λ k. StartIsRight image harts k r) (sym (last.0 ∙ long)) agrees)
-      ],
-    )
+-- runs at their start agree with the first state
+pub agree_first : (image : Image) (harts : ℕ) (runs : List Run) → IsWhole image → runs ≡ map (λ h. run_at_start h harts image) (below harts)
+    → (length runs ≡ harts) × AgreeAtFirst image harts runs
+agree_first image harts runs whole are = (
+  ap (λ (xs : List Run). length xs) are ∙ length-map (below harts) _ ∙ length_below harts,
+  λ h r at s first.
+      let m = map_at (λ h. run_at_start h harts image) (range_with_len 0 harts) h r
+      (ap (λ ks. slice_get (map (λ h. run_at_start h harts image) ks) h) (sym (below_range harts)) ∙ ap (λ xs. slice_get xs h) (sym are) ∙ at) in
+      let l : h < harts =
+      (let w = slice_get_within (range_with_len 0 harts) h m.0 m.1 in let n = length-range_with_len 0 harts in omega (arith, w, n)) in
+      let place : m.0 ≡ h =
+      sym (get_or_from_slice_get (range_with_len 0 harts) h m.0 0 m.1) ∙ get_or-range_with_len 0 harts h 0 l ∙ zero-add h in
+      subst (λ (z : Run). Agrees z h s) (ap (λ k. run_at_start k harts image) (sym place) ∙ m.2) (start_agrees h harts image s whole l first),
+)
 
 -- the first state of a replay is that of its image
 pub is_first : (log : Log) (image : Image) → IsReplayable log image → IsFirst image (length log.streams) (first_replay log image)

@@ -31,7 +31,8 @@ use Rattle.replay_core.specs.declared.position.Position.{Position}
 use Rattle.replay_core.specs.Standing.{IsAt, IsSame, LeadsOn, MakesMoves, RunsOn}
 use Rattle.replay_core.specs.Stories.{moves_between, moves_of}
 use Rattle.replay_core.specs.Telling.{HasAll, HasNoted, IsQuiet, NotesItem, NotesOn, SameAim, TellsOn, notes_at, seen_of}
-use Rattle.replay_core.proofs.MovesTold.{before_them, moves_append, moves_count, next_of_them, none_yet, other_moves, own_moves, past_them, sees_fetched, step_tells}
+use Rattle.replay_core.proofs.MovesTold.{before_them, moves_append, moves_count, next_of_them, none_yet, other_moves, own_moves, past_them, sees_fetched}
+use Rattle.replay_core.proofs.MovesTold.{step_tells}
 use Rattle.replay_core.proofs.MovesTold.{Tells}
 use Rattle.replay_core.proofs.StateAfterItem.{reached, run_unit}
 use Rattle.replay_core.proofs.OtherHarts.{set_same}
@@ -83,7 +84,8 @@ module _ (image : Image) (old : Replaying) (n : Notes) (s : Replay FlatState) (h
   told_counts : length (moves_of old.board.log n.hart has.made) ≡ slice_index s.flat.counts n.hart
   told_counts =
       let st = has.at.stands in
-      let all = moves_count old.board.log image st.replayable (first_replay old.board.log image) s has.made n.hart (going_first old.board.log image st.replayable)
+      let all = moves_count old.board.log image st.replayable (first_replay old.board.log image) s has.made n.hart
+      (going_first old.board.log image st.replayable)
       has.leads in
       let none = no_number (length old.board.log.streams) n.hart in
       omega (arith, all, none)
@@ -101,7 +103,8 @@ module _ (image : Image) (old : Replaying) (n : Notes) (s : Replay FlatState) (h
       ∙ none_yet n.from n.to [] (omega arith)
 
   -- moves of a hart up to a count before which none is to be noted
-  pub noted_leg : (new : Replaying) (h most : ℕ) (was r : Run) → new.board.log ≡ old.board.log → slice_get old.runs.items h ≡ Some was → IsQuiet n h was.count most
+  pub noted_leg : (new : Replaying) (h most : ℕ) (was r : Run) → new.board.log ≡ old.board.log → slice_get old.runs.items h ≡ Some was
+      → IsQuiet n h was.count most
       → (m : RunsOn image old.board was r h most s) → IsAt image new m.at → HasNoted image new n m.at
   noted_leg new h most was r log_is there quiet m at =
       let log = old.board.log in
@@ -124,7 +127,8 @@ module _ (image : Image) (old : Replaying) (n : Notes) (s : Replay FlatState) (h
             let count = told_counts in
             let top = m.within in
             elim (quiet (sym same)) [
-              | inl past ↦ past_them n.from n.to (moves_of old.board.log n.hart has.made) (moves_of old.board.log n.hart m.made) (omega (arith, past, count, own))
+              | inl past ↦ past_them n.from n.to (moves_of old.board.log n.hart has.made) (moves_of old.board.log n.hart m.made)
+                  (omega (arith, past, count, own))
               | inr low ↦ before_them n.from n.to (moves_of old.board.log n.hart has.made) (moves_of old.board.log n.hart m.made)
                   (omega (arith, low, top, all, none, parts, sum, then_own))
             ]
@@ -158,7 +162,8 @@ module _ (image : Image) (old : Replaying) (n : Notes) (s : Replay FlatState) (h
       noted_then : (k : Notes) → k.steps.items ≡ moves_between k.from k.to (moves_of old.board.log k.hart (has.made ++ (h, m.1) ∷ []))
           → HasNoted image new k (after old.board.log h s)
       noted_then k steps = noted_at image old new k (after old.board.log h s) (has.made ++ (h, m.1) ∷ []) log_is at
-          (subst (Leads (step (board (unit_of old.board.log)) old.board.log) (first_replay old.board.log image) (has.made ++ (h, m.1) ∷ [])) (sym after_is) then_leads)
+          (subst (Leads (step (board (unit_of old.board.log)) old.board.log) (first_replay old.board.log image) (has.made ++ (h, m.1) ∷ [])) (sym after_is)
+          then_leads)
           steps
 
       made_tells : Tells old.board.log image has.at.stands.replayable s m.0 h m.1 was.hart r.hart
@@ -225,7 +230,8 @@ module _ (image : Image) (old : Replaying) (n : Notes) (s : Replay FlatState) (h
                 noted_then k
                 (steps
                 ∙ ap₂ (λ (zs : List Step) (w : Option ℕ). zs ++ step_by was.hart w (move_of was.hart w) r.hart ∷ []) has.steps fetches
-                ∙ sym (next_of_them n.from n.to (moves_of old.board.log n.hart has.made) (step_of s.flat.memory was.hart r.hart) (omega (arith, from, counts, mine))
+                ∙ sym (next_of_them n.from n.to (moves_of old.board.log n.hart has.made) (step_of s.flat.memory was.hart r.hart)
+                (omega (arith, from, counts, mine))
                 (omega (arith, to, counts, mine)))
                 ∙ sym (ap (λ (zs : List Step). moves_between n.from n.to (moves_of old.board.log n.hart has.made ++ zs))
                 (own_moves old.board.log n.hart h m.1 parts.0 ∙ t.0))

@@ -125,7 +125,8 @@ ended image stage s agrees at stuck found cause =
     (no_answers (divergence stage.board.log s) (length stage.board.log.streams) (found image s at) h l))
     agrees (sym (cause image s at))
 
-pub tells_cause : (stage : Replaying) (answer : Told) → CanGoNowhere stage → FindsDiverged stage None → AgreesOnCause stage false → TellsDiverged stage 0 7 answer
+pub tells_cause : (stage : Replaying) (answer : Told) → CanGoNowhere stage → FindsDiverged stage None → AgreesOnCause stage false
+    → TellsDiverged stage 0 7 answer
     → ComesTo stage answer
 tells_cause stage answer stuck found cause told image s at =
     diverged_told image stage s 0 7 answer at stuck (ended image stage s false at stuck found cause) told

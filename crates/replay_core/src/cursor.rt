@@ -1,7 +1,9 @@
 //! How far a log has been taken.
-ghost use Rattle.std.specs.Prelude.{◌≡◌, ◌+◌, ◌<◌, ◌^◌, true, Some, None, length, slice_get, slice_index, IfOk, IfSome, MatchOption};
+ghost use Rattle.std.specs.Prelude.{◌≡◌, ◌+◌, ◌<◌, ◌^◌, true, Some, None, length, slice_get, slice_index, IfOk};
+ghost use Rattle.std.specs.Prelude.{IfSome, MatchOption};
 ghost use Rattle.order_rules.specs.Places.{is_number};
-ghost use Rattle.order_rules.specs.Cursor.{start as start_of, first_left as first_left_of, guard_is_met as guard_of, counted as counted_of, take_one};
+ghost use Rattle.order_rules.specs.Cursor.{start as start_of, first_left as first_left_of, guard_is_met as guard_of};
+ghost use Rattle.order_rules.specs.Cursor.{counted as counted_of, take_one};
 
 use log_entry::{Entry, Log};
 use shared_types::NoMemory;

@@ -10,7 +10,6 @@ mod outcome;
 mod position;
 mod replaying;
 mod room;
-mod runs;
 mod stage;
 mod suits;
 mod telling;

@@ -4,7 +4,8 @@ ghost use Rattle.std.specs.Prelude.{◌≡◌, ◌<◌, ◌==◌, ◌&&◌, ◌|
 ghost use Rattle.std.specs.List.{list_all};
 ghost use Rattle.replay_model.specs.Outcome.{is_stop, is_limit, same};
 ghost use Rattle.replay_core.specs.Items.{IsStill, rule_in};
-ghost use Rattle.replay_core.specs.Standing.{Begins, IsSomewhere, AnswersAt, LeadsOn, IsSame, GoesOn, HasNoItem, HasGone, CanGoNowhere, left};
+ghost use Rattle.replay_core.specs.Standing.{Begins, IsSomewhere, AnswersAt, LeadsOn, IsSame, GoesOn, HasNoItem};
+ghost use Rattle.replay_core.specs.Standing.{HasGone, CanGoNowhere, left};
 ghost use Rattle.replay_core.specs.Standing.{FindsDiverged, AgreesOnCause, EndsAt, TellsDiverged, ComesTo};
 ghost use Rattle.replay_core.specs.Telling.{NotesOn, SameAim, TellsOn};
 ghost use Rattle.run_model.specs.Run.{Run};
@@ -12,9 +13,8 @@ ghost use Rattle.run_model.specs.Run.{Run};
 use crate::notes::{Notes, look};
 use crate::outcome::Outcome;
 use crate::position::{Position, harts_of};
-use crate::runs::first_runs;
 use crate::went::Went;
-use board_backing::Ends;
+use board_backing::{Ends, first_runs};
 use elf_image::Image;
 use flat_machine::Final;
 use hart_run::HartRun;
@@ -78,7 +78,7 @@ impl Replaying {
     {
         let board = Position::start(alloc, orderly, image)?;
         let harts = harts_of(board.log.log());
-        let runs = first_runs(alloc, harts, image)?;
+        let runs = first_runs(alloc, image, harts)?;
         let ends = Ends::start(alloc, harts, image)?;
         Ok(Replaying { board, runs, ends })
     }

@@ -3,11 +3,9 @@ use Rattle.std.proofs.Common.{◌≡◌, ℕ, zero, suc, ◌*◌, ◌/◌, ◌<�
 use Rattle.std.proofs.lemmas.Option.{get_or_from_slice_get, same_Some, slice_get_within}
 use Rattle.std.proofs.Math.Nat.{mul-div_cancel_left}
 use Rattle.rv_words.specs.Limits.{page_bytes}
-use Rattle.elf_image.specs.Image.{Image}
 use Rattle.log_entry.specs.declared.log.Log.{Log}
-use Rattle.log_entry.specs.Parts.{count_of, unit_of, units_of}
+use Rattle.log_entry.specs.Parts.{unit_of, units_of}
 use Rattle.orders_law.specs.Orders.{Leads}
-use Rattle.order_rules.specs.Cursor.{first_left}
 use Rattle.flat_machine.specs.State.{FlatState}
 use Rattle.flat_machine.specs.Acts.{next}
 use Rattle.flat_machine.specs.declared.act.Act.{Act}
@@ -27,7 +25,7 @@ use Rattle.replay_law.proofs.Steps.{act_of, flat_after, step_went}
 use Rattle.replay_law.proofs.Views.{shape_of}
 use Rattle.replay_parts.specs.Boards.{Plain, state_of}
 use Rattle.replay_parts.specs.Laws.{LegsAdvance, PartsAreNumbered, PartsHaveUnit, PartsUnmoved, Reaches}
-use Rattle.replay_parts.specs.Parts.{IsPart, until_by, until_in}
+use Rattle.replay_parts.specs.Parts.{IsPart, until_by}
 use Rattle.replay_parts.proofs.Turned.{reached_goes}
 use Rattle.replay_parts.proofs.Within.{states_are}
 
@@ -117,7 +115,8 @@ pub parts_are_numbered : PartsAreNumbered
 parts_are_numbered p s h n run r part =
     let first = numbered_first p.image (length p.log.streams) in
     let there = numbers_along p.log (first_replay p.log p.image) s r.obeys.0 first r.obeys.2 in
-    numbers_led (unit_of p.log) h n (state_of p) part.led.at (subst (λ (x : Replay FlatState). AreNumbered x.flat) (sym (states_are p s r)) there) part.led.runs h
+    numbers_led (unit_of p.log) h n (state_of p) part.led.at (subst (λ (x : Replay FlatState). AreNumbered x.flat) (sym (states_are p s r)) there)
+    part.led.runs h
     run.hart part.led.agrees.hart
 
 pub part_number : (p : Plain) (s : Replay FlatState) (h : ℕ) (run : Run) → Reaches p s → IsPart p h run → number_of run ≡ h

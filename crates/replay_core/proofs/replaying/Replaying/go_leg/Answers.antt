@@ -19,12 +19,14 @@ returns-clause-on c = on_then c.args.self.now c.leg-ran.new.self c.go_noting-mad
 pub returns-clause-gone : goal.returns-clause-gone
 returns-clause-gone c =
     subst (λ went. HasGone went c.args.self.now c.go_noting-made.new.self) (sym c.either.ensures)
-    (gone_then c.leg-ran.result c.go_noting-made.result c.args.self.now c.leg-ran.new.self c.go_noting-made.new.self c.leg-ran.ensures.gone c.go_noting-made.ensures.gone)
+    (gone_then c.leg-ran.result c.go_noting-made.result c.args.self.now c.leg-ran.new.self c.go_noting-made.new.self c.leg-ran.ensures.gone
+    c.go_noting-made.ensures.gone)
 
 pub returns-clause-stuck : goal.returns-clause-stuck
 returns-clause-stuck c = λ none. c.go_noting-made.ensures.stuck (or_parts c.go_noting-made.result c.leg-ran.result (sym c.either.ensures ∙ none)).0
 
 pub returns-clause-noted : goal.returns-clause-noted
 returns-clause-noted c =
-    told_on c.args.self.now c.leg-ran.new.self c.go_noting-made.new.self c.args.notes.now c.args.notes.now c.go_noting-made.new.notes (told_by c.args.self.now c.leg-ran.new.self c.args.notes.now c.leg-ran.ensures.noted)
+    told_on c.args.self.now c.leg-ran.new.self c.go_noting-made.new.self c.args.notes.now c.args.notes.now c.go_noting-made.new.notes
+    (told_by c.args.self.now c.leg-ran.new.self c.args.notes.now c.leg-ran.ensures.noted)
     c.go_noting-made.ensures.noted

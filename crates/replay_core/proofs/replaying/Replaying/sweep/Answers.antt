@@ -31,7 +31,8 @@ loop-hart-preserved c = record {
   on = on_then c.args.self.now c.loop-hart.self c.go_far-far.new.self c.loop-hart.invariant.on c.go_far-far.ensures.on;
   log = c.go_far-far.ensures.log ∙ c.loop-hart.invariant.log;
   gone = subst (λ went. HasGone went c.args.self.now c.go_far-far.new.self) (sym c.either-went.ensures)
-      (gone_then c.loop-hart.went c.go_far-far.result c.args.self.now c.loop-hart.self c.go_far-far.new.self c.loop-hart.invariant.gone c.go_far-far.ensures.gone);
+      (gone_then c.loop-hart.went c.go_far-far.result c.args.self.now c.loop-hart.self c.go_far-far.new.self c.loop-hart.invariant.gone
+      c.go_far-far.ensures.gone);
   stuck = λ none. stuck_then c.loop-hart.went c.go_far-far.result c.loop-hart.self c.go_far-far.new.self c.loop-hart.hart c.go_far-far.ensures.gone
       c.go_far-far.ensures.stuck c.loop-hart.invariant.stuck (sym c.either-went.ensures ∙ none);
   aim = aim_on c.args.notes.now c.loop-hart.notes c.go_far-far.new.notes c.loop-hart.invariant.aim c.go_far-far.ensures.aim;

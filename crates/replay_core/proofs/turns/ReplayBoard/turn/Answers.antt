@@ -44,7 +44,8 @@ until-requires c =
     let moved = subst (λ (z : Plain). IsPartMoved z c.args.run.now) (sym c.self.view_is) c.requires in
     place_left c.self.inside.board c.make_all-went.new.self c.self.inside.ends c.self.inside.image.value c.self.inside.counts.items c.args.run.now
     c.make_all-went.new.run c.number_of-hart.result moved.0 c.make_all-went.result c.self.invariant
-    (subst (λ h. IsPartAdvanced (plain_of c.self.inside.board c.self.inside.image.value c.self.inside.counts.items) h moved.0 c.args.run.now) (sym c.number_of-hart.ensures)
+    (subst (λ h. IsPartAdvanced (plain_of c.self.inside.board c.self.inside.image.value c.self.inside.counts.items) h moved.0 c.args.run.now)
+    (sym c.number_of-hart.ensures)
     moved.1) c.make_all-went.ensures.makes
 
 pub invariant_of-self : goal.invariant_of-self
@@ -52,7 +53,8 @@ invariant_of-self c =
     let moved = subst (λ (z : Plain). IsPartMoved z c.args.run.now) (sym c.self.view_is) c.requires in
     (turn_done c.self.inside.board c.make_all-went.new.self c.self.inside.ends c.self.inside.image.value c.self.inside.counts.items c.args.run.now
     c.make_all-went.new.run c.number_of-hart.result c.from.result moved.0 c.count-count.result c.until.result c.make_all-went.result c.pace_of.result
-    c.self.invariant moved.1 c.number_of-hart.ensures c.from.ensures c.make_all-went.ensures.makes c.make_all-went.ensures.log c.count-count.ensures c.until.ensures
+    c.self.invariant moved.1 c.number_of-hart.ensures c.from.ensures c.make_all-went.ensures.makes c.make_all-went.ensures.log c.count-count.ensures
+    c.until.ensures
     c.pace_of.ensures).0
 
 pub returns-clause-turned : goal.returns-clause-turned
@@ -63,7 +65,8 @@ returns-clause-turned c = λ n part.
     let done =
     turn_done c.self.inside.board c.make_all-went.new.self c.self.inside.ends c.self.inside.image.value c.self.inside.counts.items c.args.run.now
     c.make_all-went.new.run c.number_of-hart.result c.from.result n c.count-count.result c.until.result c.make_all-went.result c.pace_of.result
-    c.self.invariant moved c.number_of-hart.ensures c.from.ensures c.make_all-went.ensures.makes c.make_all-went.ensures.log c.count-count.ensures c.until.ensures
+    c.self.invariant moved c.number_of-hart.ensures c.from.ensures c.make_all-went.ensures.makes c.make_all-went.ensures.log c.count-count.ensures
+    c.until.ensures
     c.pace_of.ensures in (
       subst (λ (z : Plain). IsTurn z (plain_of c.make_all-went.new.self c.self.inside.image.value
           (slice_set c.self.inside.counts.items c.from.result c.count-count.result)) (number_of c.args.run.now) n (told c.pace_of.result))
