@@ -4,7 +4,7 @@ use Rattle.std.proofs.Common.{sym, ap, ◌∙◌, subst, arith, true≢false, �
 use Rattle.std.proofs.lemmas.Option.{none-some, same_Some}
 use Rattle.rv_words.specs.declared.shared.Cause.{Cause}
 use Rattle.rv_words.specs.declared.shared.Cause.TheVariants as causes
-use Rattle.std.specs.Prelude.{is_ok, IsTrue}
+use Rattle.std.specs.Prelude.{◌↔◌, is_ok, IsTrue}
 use Rattle.outside.specs.Causes.{Rose}
 use Rattle.elf_image.specs.Rules.{broken_rule}
 use Rattle.command_words.specs.Grammar.{job_of}
@@ -14,7 +14,7 @@ use Rattle.crew_parts.specs.Turns.{CountsFaults}
 use Rattle.outside.specs.Seen.{SeenShelf, SeenSink, HoldsMore}
 use Rattle.revirt_tool.specs.Serving.{Around, RecordsAs, TaskAs}
 use Rattle.revirt_tool.specs.Tasks.{Wish, Task, Records, Lists, task, task_of}
-use Rattle.revirt_tool.specs.Files.{longest}
+use Rattle.revirt_tool.specs.Files.{longest, IsUntouched}
 use Rattle.revirt_tool.specs.Listings.{InspectsAs, IsListing, IsLogOf, IsMalformed}
 use Rattle.order_rules.specs.Orderly.{IsOrderly, IsLeastBreak}
 use Rattle.order_rules.proofs.Reports.{reports_are_one}
@@ -26,10 +26,12 @@ use Rattle.log_format.specs.Format.{Bad}
 use Rattle.revirt_tool.specs.declared.ending.File.TheVariants as files
 use Rattle.revirt_tool.specs.Closing.{Prints, PrintsOrFails, status_of, status_unprinted}
 use Rattle.revirt_tool.specs.Promise.{KeepsRecording, is_fault}
-use Rattle.revirt_tool.specs.Complete.{AreDone, HasImage, HoldsLog, HasLog, KeptAreLogs, NothingFailed}
+use Rattle.revirt_tool.specs.Complete.{HasImage, HoldsLog, HasLog, NothingFailed, IsRecorded, IsListed, RecordingsAreDone}
+use Rattle.revirt_tool.specs.Complete.{ListingsAreDone, KeptAreLogs}
 use Rattle.revirt_tool.specs.declared.ending.Ending.{Ending}
 use Rattle.revirt_tool.specs.declared.ending.Ending.TheVariants.{Usage, NotBuilt, TooLong, ImageRefused, Malformed, OtherImage, Disorderly, Diverged}
 use Rattle.revirt_tool.specs.declared.ending.Ending.TheVariants.{NoMemory, ShelfFault, Kept, Listed}
+use Rattle.revirt_tool.proofs.ListingRoom.{listed_alike}
 
 abbrev ok_or : {X : Type 0} → X → Result X Bad → X
 ok_or other (Ok x) = x
@@ -104,13 +106,19 @@ module _ (words : List (List ℕ)) (before after : Around) (status : ℕ) (image
       omega (arith, is, within)
 
   kept : (text : List ℕ) (fault : Bool) → KeepsRecording image.wanted text fault before.shelf after.shelf before.sources after.sources
-      → PrintsOrFails text (if fault then 5 else 0) (if fault then 5 else 11) before.sink after.sink status → status ≡ 0
-  kept text fault keeps prints =
+      → PrintsOrFails text (if fault then 5 else 0) (if fault then 5 else 11) before.sink after.sink status → IsRecorded image.wanted before after status
+  kept text fault keeps closes =
       let none = done text fault image.wanted before.shelf after.shelf before.sources after.sources keeps quiet.console in
-      printed _ 0 11 status before.sink after.sink quiet.sink
-      (subst (λ f. PrintsOrFails text (if f then 5 else 0) (if f then 5 else 11) before.sink after.sink status) none prints)
+      let p = prints text 0 11 status before.sink after.sink quiet.sink
+      (subst (λ f. PrintsOrFails text (if f then 5 else 0) (if f then 5 else 11) before.sink after.sink status) none closes) in
+      record {
+        status_is = p.1;
+        text = text;
+        keeps = subst (λ f. KeepsRecording image.wanted text f before.shelf after.shelf before.sources after.sources) none keeps;
+        printed = p.0;
+      }
 
-pub recordings_done : AreDone HasImage
+pub recordings_done : RecordingsAreDone
 recordings_done words before after status (Usage place, ends, closes) image quiet =
     absurd (in_grammar words (Records image.wanted) place image.is ends.0)
 recordings_done words before after status (NotBuilt, ends, closes) image quiet = absurd (none-some (Records image.wanted) (sym ends.1 ∙ image.is))
@@ -163,10 +171,10 @@ module _ (name : List ℕ) (s : SeenShelf) (holds : HoldsLog name s) where
   pub reads_alike : (read : Log) → IsLogOf name s read → log_without_room holds.log ≡ log_without_room read
   reads_alike read is = same_ok _ _ (sym (fetched_is is.file (is.fetched.held holds.tells)) ∙ is.read)
 
-  -- and is orderly
-  pub not_disorderly : (read : Log) (rule hart entry : ℕ) → IsLogOf name s read → IsLeastBreak read rule hart entry → ⊥
-  not_disorderly read rule hart entry is breaks =
-      not_judged holds.log read rule hart entry (reads_alike read is) holds.orderly breaks
+  -- and breaks no rule where the log is orderly
+  pub not_disorderly : IsOrderly holds.log → (read : Log) (rule hart entry : ℕ) → IsLogOf name s read → IsLeastBreak read rule hart entry → ⊥
+  not_disorderly orderly read rule hart entry is breaks =
+      not_judged holds.log read rule hart entry (reads_alike read is) orderly breaks
 
 -- what is asked for ended so, and no count rose
 module _ (words : List (List ℕ)) (before after : Around) (status : ℕ) (log : HasLog words before.shelf) (quiet : NothingFailed before after) where
@@ -175,12 +183,34 @@ module _ (words : List (List ℕ)) (before after : Around) (status : ℕ) (log :
   listed ending a is ends =
       (same_task words (λ b. TaskAs b before.shelf after.shelf before.sources after.sources ending) a (Lists log.name) is log.is ends).0
 
-  listed_log : (text : List ℕ) → ((read : Log) × IsLogOf log.name before.shelf read × IsListing read text false) → ⊥
-  listed_log text l =
-      let told = l.2.judged in
-      not_disorderly log.name before.shelf log.holds l.0 told.rule told.hart told.entry l.1 told.breaks
+  -- the listing of what was read tells whether the log is orderly
+  judges : (read : Log) (text : List ℕ) (orderly : Bool) → IsLogOf log.name before.shelf read → IsListing read text orderly
+      → (orderly ≡ true) ↔ IsOrderly log.holds.log
+  judges read text true is l =
+      let same = reads_alike log.name before.shelf log.holds read is in (
+        λ told. (order_sees_no_room log.holds.log).orderly.0
+            (subst IsOrderly (sym same) ((order_sees_no_room read).orderly.1 l.judged.0)),
+        λ orderly. refl,
+      )
+  judges read text false is l = (
+    λ told. absurd (true≢false (sym told)),
+    λ orderly. absurd (not_disorderly log.name before.shelf log.holds orderly read l.judged.rule l.judged.hart l.judged.entry is l.judged.breaks),
+  )
 
-pub listings_done : AreDone HasLog
+  listed_so : (text : List ℕ) (orderly : Bool) → IsUntouched before.shelf after.shelf
+      → ((read : Log) × IsLogOf log.name before.shelf read × IsListing read text orderly)
+      → Prints text before.sink after.sink × (status ≡ (if orderly then 0 else 7)) → IsListed log.holds.log before after status
+  listed_so text orderly kept (read, is, l) p = record {
+    text = text;
+    orderly = orderly;
+    judged = judges read text orderly is l;
+    listing = listed_alike log.holds.log read text orderly (reads_alike log.name before.shelf log.holds read is) l;
+    status_is = p.1;
+    printed = p.0;
+    kept = kept;
+  }
+
+pub listings_done : ListingsAreDone
 listings_done words before after status (Usage place, ends, closes) log quiet = absurd (in_grammar words (Lists log.name) place log.is ends.0)
 listings_done words before after status (NotBuilt, ends, closes) log quiet = absurd (none-some (Lists log.name) (sym ends.1 ∙ log.is))
 listings_done words before after status (TooLong files.Image, ends, closes) log quiet =
@@ -204,12 +234,16 @@ listings_done words before after status (ShelfFault, ends, closes) log quiet =
     absurd (quiet.shelf (listed words before after status log quiet ShelfFault ends.0 ends.1 ends.2).rose)
 listings_done words before after status (Kept report fault, ends, closes) log quiet =
     absurd (listed words before after status log quiet (Kept report fault) ends.0 ends.1 ends.2)
-listings_done words before after status (Listed listing true, ends, inl prints) log quiet =
-    inl (printed _ 0 11 status before.sink after.sink quiet.sink prints)
-listings_done words before after status (Listed listing false, ends, closes) log quiet =
-    absurd (listed_log words before after status log quiet listing.items
-    (listed words before after status log quiet (Listed listing false) ends.0 ends.1 ends.2).1)
+listings_done words before after status (Listed listing true, ends, inl closes) log quiet =
+    let l = listed words before after status log quiet (Listed listing true) ends.0 ends.1 ends.2 in
+    inl (listed_so words before after status log quiet listing.items true l.0 l.1
+    (prints listing.items 0 11 status before.sink after.sink quiet.sink closes))
+listings_done words before after status (Listed listing false, ends, inl closes) log quiet =
+    let l = listed words before after status log quiet (Listed listing false) ends.0 ends.1 ends.2 in
+    inl (listed_so words before after status log quiet listing.items false l.0 l.1
+    (prints listing.items 7 7 status before.sink after.sink quiet.sink closes))
 listings_done words before after status (Listed listing true, ends, inr other) log quiet = absurd (true≢false (sym other.0))
+listings_done words before after status (Listed listing false, ends, inr other) log quiet = absurd (true≢false (sym other.0))
 
 pub kept_within : (w : Wish) (text : List ℕ) (fault : Bool) (s t : SeenShelf) (o p : World) (keeps : KeepsRecording w text fault s t o p)
     → w.log_limit ≤ longest files.Log → length (spelling keeps.log) ≤ longest files.Log
@@ -217,7 +251,7 @@ kept_within w text fault s t o p keeps limit =
     let within = keeps.within in
     omega (arith, within, limit)
 
--- a shelf that tells and holds the log that a recording kept holds an orderly log
+-- a shelf that tells and holds the log that a recording kept holds a log
 abbrev pub kept_log_held : (w : Wish) (text : List ℕ) (fault : Bool) (s t u : SeenShelf) (o p : World) (name : List ℕ)
     (keeps : KeepsRecording w text fault s t o p) → w.log_limit ≤ longest files.Log → IsTrue u.tells
     → u.held name ≡ Some (spelling keeps.log) → HoldsLog name u
@@ -228,9 +262,8 @@ kept_log_held w text fault s t u o p name keeps limit tells held =
       held = held;
       within = kept_within w text fault s t o p keeps limit;
       again = keeps.again;
-      orderly = keeps.orderly;
     }
 
 pub kept_are_logs : KeptAreLogs
-kept_are_logs w text fault s t o p words keeps limit tells is =
-    record { name = w.log; is = is; holds = kept_log_held w text fault s t t o p w.log keeps limit tells (keeps.kept.log_held tells) }
+kept_are_logs w text fault s t o p name u keeps limit tells held =
+    (kept_log_held w text fault s t u o p name keeps limit tells held, refl, keeps.orderly)

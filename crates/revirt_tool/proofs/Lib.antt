@@ -4,6 +4,7 @@ pub mod Ended
 pub mod Recordings
 pub mod Wishes
 pub mod ReplaySteps
+pub mod ListingRoom
 pub mod Completeness
 pub mod ReplaysDone
 pub mod Told

@@ -1,12 +1,11 @@
 -- A recording that was kept keeps what the program promises.
-use Rattle.std.proofs.Common.{◌≡◌, ℕ, ◌+◌, ◌<◌, ◌==◌, ◌&&◌, not, Bool, true, false, List, [], ◌∷◌, ◌++◌, map, length, slice_get, slice_index, None, IsTrue}
-use Rattle.std.proofs.Common.{sym, ap, ap₂, ◌∙◌, subst, Option}
+use Rattle.std.proofs.Common.{◌≡◌, ℕ, ◌+◌, ◌<◌, Bool, true, List, [], ◌∷◌, ◌++◌, length, slice_index, None}
+use Rattle.std.proofs.Common.{sym, ap, ◌∙◌, subst, Option}
 use Rattle.std.proofs.Common.{Some, IfSome, Ok, Err, inl, inr, ⊎_elim, refl, arith}
 use Rattle.std.specs.Prelude.{◌↔◌}
 use Rattle.std.specs.List.{enumerate_from}
 use Rattle.std.proofs.lemmas.List.{append-nil, length-map}
 use Rattle.std.proofs.lemmas.List.FromFn.{length-map-range_with_len, length-enumerate_from}
-use Rattle.rv_words.specs.declared.shared.Cause.{Cause}
 use Rattle.rv_words.specs.declared.shared.Cause.TheVariants as causes
 use Rattle.rv_hart.specs.Moves.{hart_at_start}
 use Rattle.outside.specs.Causes.{Rose}
@@ -15,7 +14,7 @@ use Rattle.elf_image.specs.Image.{Image}
 use Rattle.elf_image.specs.Loading.{image_of}
 use Rattle.elf_image.specs.Rules.{broken_rule}
 use Rattle.flat_machine.specs.State.{FlatState, flat_at_start}
-use Rattle.flat_machine.specs.Runs.{final_of, flat}
+use Rattle.flat_machine.specs.Runs.{final_of}
 use Rattle.flat_machine.specs.declared.results.Final.{Final}
 use Rattle.log_entry.specs.declared.log.Entry.{Entry}
 use Rattle.log_entry.specs.declared.log.Entry.TheVariants.{End}
@@ -28,8 +27,6 @@ use Rattle.log_format.specs.Grammar.{spelling, reading}
 use Rattle.order_rules.specs.Places.{stream}
 use Rattle.replay_model.specs.Board.{board}
 use Rattle.replay_model.specs.State.{Replay}
-use Rattle.replay_model.specs.Acts.{acts_of}
-use Rattle.replay_model.specs.Items.{story}
 use Rattle.replay_model.specs.Journal.{order_of}
 use Rattle.replay_model.specs.Outcome.{Done, IsOutcome, cause_agrees}
 use Rattle.replay_model.proofs.ActsOfOrders.{orders_drive}
@@ -261,7 +258,7 @@ pub records : (w : Wish) (s m t : SeenShelf) (o p : World) (image : Image) (log 
     → KeepsAs w log ended m t ending → RecordsAs w s t o p ending
 records w s m t o p image log ended journal turns NoMemory read tells is kept =
     let file = read.1 in
-    (untouched s m t read.0 tells kept, inr (record { file = file.0; fetched = file.1; accepted = file.2 }))
+    (untouched s m t read.0 tells kept, inr (record { file = file.0; fetched = file.1; accepted = file.2 }, (is.given, is.gives)))
 records w s m t o p image log ended journal turns ShelfFault read tells is kept =
     let file = read.1 in
     inr (record {

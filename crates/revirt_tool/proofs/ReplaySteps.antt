@@ -1,6 +1,5 @@
 -- What the steps of a replay come to together.
-use Rattle.std.proofs.Common.{◌≡◌, ℕ, List, Some, Ok, Err, false, inl, inr, sym, ◌∙◌, subst}
-use Rattle.std.specs.Prelude.{IsTrue}
+use Rattle.std.proofs.Common.{ℕ, List, Ok, Err, inl, inr, sym, ◌∙◌, subst}
 use Rattle.outside.specs.Causes.{Rose}
 use Rattle.outside.specs.Fetching.{IsPast}
 use Rattle.outside.specs.Seen.{SeenShelf, ToldBefore}
@@ -8,9 +7,9 @@ use Rattle.elf_image.specs.Image.{Image}
 use Rattle.log_entry.specs.declared.log.Log.{Log}
 use Rattle.flat_machine.specs.declared.results.Final.{Final}
 use Rattle.revirt_tool.specs.Tasks.{ReplayWish}
-use Rattle.revirt_tool.specs.Files.{WasFetched, IsUntouched, FailsToFetch, WasTooLong, longest}
+use Rattle.revirt_tool.specs.Files.{WasFetched, IsUntouched, longest}
 use Rattle.revirt_tool.specs.Listings.{LogAs}
-use Rattle.revirt_tool.specs.Replays.{IsImageOf, StartAs, OutcomeAs, KeepsReplayAs, HoldsDump, FailsToDump, ReplaysAs}
+use Rattle.revirt_tool.specs.Replays.{IsImageOf, StartAs, OutcomeAs, KeepsReplayAs, ReplaysAs}
 use Rattle.revirt_tool.specs.declared.ending.File.{File}
 use Rattle.revirt_tool.specs.declared.ending.File.TheVariants as files
 use Rattle.revirt_tool.specs.declared.ending.Ending.{Ending}

@@ -1,7 +1,6 @@
 -- Where a replay ends, what of it can be reported, and what comes of it beside what was fetched.
-use Rattle.std.proofs.Common.{◌≡◌, ℕ, Bool, true, false, List, [], ◌∷◌, length, Option, Some, None, if◌then◌else◌, true≢false, refl, sym, ap, ◌∙◌, subst}
-use Rattle.std.proofs.Common.{inl, inr}
-use Rattle.std.specs.Prelude.{◌&&◌, is_some, IsSome, IsTrue}
+use Rattle.std.proofs.Common.{◌≡◌, ℕ, Bool, true, false, List, [], ◌∷◌, length, Option, Some, if◌then◌else◌, true≢false, refl, sym, ap, subst}
+use Rattle.std.specs.Prelude.{◌&&◌, is_some}
 use Rattle.std.proofs.lemmas.Bool.{and_parts}
 use Rattle.std.proofs.lemmas.Option.{none-some, same_Some}
 use Rattle.rv_words.specs.declared.shared.Cause.{Cause}
@@ -16,7 +15,7 @@ use Rattle.orders_law.specs.Orders.{Leads, IsLeast}
 use Rattle.replay_model.specs.Board.{board}
 use Rattle.replay_model.specs.State.{Replay}
 use Rattle.replay_model.specs.Items.{step}
-use Rattle.replay_model.specs.Outcome.{Outcome, Done, Diverged, IsOutcome, same, is_stop, cause_agrees, outcome_at, all_ended, diverged, least_diverged}
+use Rattle.replay_model.specs.Outcome.{Outcome, Done, Diverged, IsOutcome, same, is_stop, cause_agrees, all_ended, diverged, least_diverged}
 use Rattle.replay_law.specs.Laws.{IsReplayable, first_flat, first_replay}
 use Rattle.replay_law.proofs.Orders.{good_first, good_along}
 use Rattle.replay_core.specs.Ends.{told_by, IsOutcomeOf}

@@ -1,5 +1,5 @@
 -- Where nothing fails the replay of a log that was recorded is done, with the recording's report, and traces of it are told.
-use Rattle.std.proofs.Common.{◌≡◌, ℕ, Bool, true, false, List, ◌∷◌, [], length, Option, Some, None, Ok, Err, inl, inr, refl, sym, ap, ap₂, ◌∙◌, subst}
+use Rattle.std.proofs.Common.{◌≡◌, ℕ, Bool, true, false, List, length, Option, Some, None, inl, inr, refl, sym, ap, ap₂, ◌∙◌, subst}
 use Rattle.std.proofs.Common.{arith, true≢false, ⊎_elim}
 use Rattle.std.specs.Prelude.{◌⊎◌, IsTrue}
 use Rattle.std.proofs.lemmas.List.{length-map}
@@ -13,27 +13,31 @@ use Rattle.elf_image.specs.Rules.{broken_rule}
 use Rattle.flat_machine.specs.State.{FlatState, flat_at_start}
 use Rattle.flat_machine.specs.Runs.{final_of}
 use Rattle.flat_machine.specs.declared.results.Final.{Final}
+use Rattle.flat_machine.specs.declared.results.Step.{Step}
 use Rattle.log_entry.specs.declared.log.Log.{Log}
 use Rattle.log_entry.specs.Parts.{unit_of}
 use Rattle.log_entry.specs.Room.{log_without_room, stream_without_room}
-use Rattle.log_format.specs.Grammar.{spelling}
-use Rattle.order_rules.specs.Orderly.{IsLeastBreak}
+use Rattle.orders_law.specs.Orders.{IsLeast}
 use Rattle.replay_model.specs.Board.{board}
+use Rattle.replay_model.specs.State.{Replay}
+use Rattle.replay_model.specs.Items.{step}
 use Rattle.replay_model.specs.Outcome.{Outcome, Done, Diverged, IsOutcome}
-use Rattle.replay_law.specs.Laws.{first_flat}
+use Rattle.replay_law.specs.Laws.{first_flat, first_replay}
+use Rattle.replay_core.specs.Stories.{moves_of, moves_between, IsStoryOf}
 use Rattle.replay_ends.proofs.Outcomes.{outcome_is_one}
-use Rattle.room_laws.proofs.Recordings.{replays_see_no_room}
+use Rattle.room_laws.proofs.Recordings.{replays_see_no_room, beginnings_see_no_room}
 use Rattle.report_view.specs.Report.{report}
+use Rattle.report_view.specs.Trace.{trace}
 use Rattle.crew_parts.specs.Boards.{World}
-use Rattle.revirt_tool.specs.Tasks.{Wish, ReplayWish, TraceWish, Task, Replays, Traces, task}
+use Rattle.revirt_tool.specs.Tasks.{ReplayWish, TraceWish, Task, Replays, Traces, task}
 use Rattle.revirt_tool.specs.Files.{longest, WasFetched}
 use Rattle.revirt_tool.specs.Listings.{IsLogOf}
-use Rattle.revirt_tool.specs.Replays.{IsImageOf, IsRefusedOf, IsOther, EndsAt, DivergesAt, HoldsDump, IsLogFor, AreReadFor, KeepsReplay, ReplaysAs}
+use Rattle.revirt_tool.specs.Replays.{IsImageOf, IsRefusedOf, IsOther, EndsAt, DivergesAt, HoldsDump, AreReadFor, KeepsReplay, ReplaysAs}
 use Rattle.revirt_tool.specs.Closing.{Closes, Prints}
-use Rattle.revirt_tool.specs.Promise.{KeepsRecording}
-use Rattle.revirt_tool.specs.Traces.{TracesAs}
+use Rattle.revirt_tool.specs.Traces.{TellsMoves, TracesAs}
 use Rattle.revirt_tool.specs.Serving.{Around, TaskAs, EndsAs}
-use Rattle.revirt_tool.specs.Complete.{HoldsReplay, HasReplay, HasTrace, NothingFailed, IsReplayed, end_held, ReplaysAreDone, TracesAreDone, KeptAreReplayed}
+use Rattle.revirt_tool.specs.Complete.{HoldsReplay, NothingFailed, image_held, end_held}
+use Rattle.revirt_tool.specs.Complete.{IsReplayed, IsTraced, ReplaysAreDone, TracesAreDone, KeptAreReplayed}
 use Rattle.revirt_tool.specs.declared.ending.File.TheVariants as files
 use Rattle.revirt_tool.specs.declared.ending.Ending.{Ending}
 use Rattle.revirt_tool.specs.declared.ending.Ending.TheVariants.{Usage, NotBuilt, TooLong, ImageRefused, Malformed, OtherImage, Disorderly}
@@ -64,6 +68,39 @@ module _ (log : Log) (image : Image) (o : Outcome FlatState) where
 alike_to : (one other : Log) (image : Image) (o : Outcome FlatState) → log_without_room one ≡ log_without_room other → ComesTo other image o
     → ComesTo one image o
 alike_to one other image o same is = roomy one image o (subst (λ l. ComesTo l image o) (sym same) (bare other image o is))
+
+-- a story of a log is one of the log without room
+module _ (log : Log) (image : Image) (hart from to : ℕ) (steps : List Step) where
+  -- where an order is the least one, by the steps of a replay, its harts, and where it begins
+  abbrev Least : (ℕ → Replay FlatState → Option (Replay FlatState × Option (List Step))) → ℕ → Replay FlatState → Type 0
+  Least go harts first =
+      (made : List (ℕ × Option (List Step))) × ((end : Replay FlatState) × IsLeast go harts first made end × (steps ≡ moves_between from to (moves_of log hart made)))
+
+  goes_alike : step (board (unit_of log)) (log_without_room log) ≡ step (board (unit_of log)) log
+  goes_alike = (replays_see_no_room (unit_of log) log).steps_are
+
+  begins_alike : first_replay (log_without_room log) image ≡ first_replay log image
+  begins_alike = (beginnings_see_no_room log image).first_is
+
+  bare_story : IsStoryOf log image hart from to steps → IsStoryOf (log_without_room log) image hart from to steps
+  bare_story is =
+      subst (λ go. Least go (length (log_without_room log).streams) (first_replay (log_without_room log) image)) (sym goes_alike)
+      (subst (λ n. Least (step (board (unit_of log)) log) n (first_replay (log_without_room log) image))
+      (sym (length-map log.streams stream_without_room))
+      (subst (λ first. Least (step (board (unit_of log)) log) (length log.streams) first) (sym begins_alike) is))
+
+  roomy_story : IsStoryOf (log_without_room log) image hart from to steps → IsStoryOf log image hart from to steps
+  roomy_story is =
+      subst (λ first. Least (step (board (unit_of log)) log) (length log.streams) first) begins_alike
+      (subst (λ n. Least (step (board (unit_of log)) log) n (first_replay (log_without_room log) image)) (length-map log.streams stream_without_room)
+      (subst (λ go. Least go (length (log_without_room log).streams) (first_replay (log_without_room log) image)) goes_alike is))
+
+-- and so of a log that says the same
+story_alike : (one other : Log) (image : Image) (hart from to : ℕ) (steps : List Step) → log_without_room one ≡ log_without_room other
+    → IsStoryOf other image hart from to steps → IsStoryOf one image hart from to steps
+story_alike one other image hart from to steps same is =
+    roomy_story one image hart from to steps
+    (subst (λ l. IsStoryOf l image hart from to steps) (sym same) (bare_story other image hart from to steps is))
 
 -- an ending of a replay or a trace over a shelf that tells throughout and on which nothing fails
 abbrev may_end : Ending → Bool
@@ -135,7 +172,7 @@ module _ (w : ReplayWish) (s t : SeenShelf) (has : HoldsReplay w s) (tells : IsT
   replay_may (ImageRefused rule) ends quiet = absurd (not_refused ends.0.0 rule ends.0.1 ends.0.2)
   replay_may (Malformed offset rule) ends quiet = absurd (well_formed w.log s has.holds offset rule ends.0)
   replay_may (OtherImage named other) ends quiet = absurd (not_other ends.0.0 named other ends.0.1 ends.0.2)
-  replay_may (Disorderly rule hart entry) ends quiet = absurd (not_disorderly w.log s has.holds ends.0.0 rule hart entry ends.0.1 ends.0.2.3)
+  replay_may (Disorderly rule hart entry) ends quiet = absurd (not_disorderly w.log s has.holds has.orderly ends.0.0 rule hart entry ends.0.1 ends.0.2.3)
   replay_may (DivergedSo hart count rule) ends quiet = absurd (not_diverged hart count rule ends.0)
   replay_may ShelfFault ends quiet = absurd (quiet (⊎_elim (λ fetch. fetch.rose) (λ unkept. unkept.1.rose) ends))
   replay_may NoMemory ends quiet = refl
@@ -169,14 +206,37 @@ module _ (before after : Around) (status : ℕ) (tells : IsTrue after.shelf.tell
   trace_may w has (Kept text fault) ends = refl
   trace_may w has ending ends = replay_may w.files before.shelf after.shelf has tells ending ends quiet.shelf
 
-  trace_closes : (w : TraceWish) (ending : Ending) → TracesAs w before.shelf after.shelf ending → may_end ending ≡ true
-      → Closes ending before.sink after.sink status → (status ≡ 0) ⊎ (status ≡ 3)
-  trace_closes w NoMemory ends may (inl line) = inr (printed _ 3 3 status before.sink after.sink quiet.sink line)
-  trace_closes w NoMemory ends may (inr other) = absurd (true≢false (sym other.0))
-  trace_closes w (Kept text true) ends may closes = absurd (true≢false ends.2)
-  trace_closes w (Kept text false) ends may (inl closes) = inl (printed text.items 0 11 status before.sink after.sink quiet.sink closes)
-  trace_closes w (Kept text false) ends may (inr other) = absurd (true≢false (sym other.0))
-  trace_closes w ending ends may closes = absurd (true≢false (sym may))
+  -- the moves that were told are those of the log and the image that are there
+  told_so : (w : TraceWish) (has : HoldsReplay w.files before.shelf) (text : List ℕ)
+      → AreReadFor w.files before.shelf after.shelf (λ l i. TellsMoves w text l i)
+      → (steps : List Step) × IsStoryOf has.holds.log (image_held w.files before.shelf has) w.hart w.from w.to steps × (text ≡ trace w.from steps)
+  told_so w has text (read, is, (other, of, named, tells_moves)) =
+      let image = image_held w.files before.shelf has in
+      let moves = subst (λ i. IsStoryOf read i w.hart w.from w.to tells_moves.steps)
+      (sym (image_is w.files before.shelf after.shelf has tells read other is of)) tells_moves.moves in (
+        tells_moves.steps,
+        story_alike has.holds.log read image w.hart w.from w.to tells_moves.steps (alike w.files before.shelf after.shelf has tells read is) moves,
+        tells_moves.told,
+      )
+
+  trace_closes : (w : TraceWish) (has : HoldsReplay w.files before.shelf) (ending : Ending) → TracesAs w before.shelf after.shelf ending
+      → may_end ending ≡ true → Closes ending before.sink after.sink status
+      → IsTraced w has.holds.log (image_held w.files before.shelf has) before after status ⊎ (status ≡ 3)
+  trace_closes w has NoMemory ends may (inl line) = inr (printed _ 3 3 status before.sink after.sink quiet.sink line)
+  trace_closes w has NoMemory ends may (inr other) = absurd (true≢false (sym other.0))
+  trace_closes w has (Kept text true) ends may closes = absurd (true≢false ends.2)
+  trace_closes w has (Kept text false) ends may (inl closes) =
+      let t = told_so w has text.items ends.0 in
+      let p = prints text.items 0 11 status before.sink after.sink quiet.sink closes in
+      inl (record {
+        status_is = p.1;
+        steps = t.0;
+        moves = t.1;
+        printed = subst (λ x. Prints x before.sink after.sink) t.2 p.0;
+        kept = ends.1;
+      })
+  trace_closes w has (Kept text false) ends may (inr other) = absurd (true≢false (sym other.0))
+  trace_closes w has ending ends may closes = absurd (true≢false (sym may))
 
 pub replays_done : ReplaysAreDone
 replays_done words before after status serves has tells quiet =
@@ -187,7 +247,7 @@ replays_done words before after status serves has tells quiet =
 pub traces_done : TracesAreDone
 traces_done words before after status serves has tells quiet =
     let ends = (task_ends words (Traces has.wanted) before.shelf after.shelf before.sources after.sources serves.0 has.is serves.1).0 in
-    trace_closes before after status tells quiet has.wanted serves.0 ends
+    trace_closes before after status tells quiet has.wanted has.there serves.0 ends
     (trace_may before after status tells quiet has.wanted has.there serves.0 ends) serves.2
 
 pub kept_are_replayed : KeptAreReplayed
@@ -197,6 +257,7 @@ kept_are_replayed w text fault s t o p r u keeps limit tells log_held held =
     let log = keeps.log in (
       record {
         holds = kept_log_held w text fault s t u o p r.log keeps limit tells log_held;
+        orderly = keeps.orderly;
         file = file;
         held = held;
         within = keeps.fetched.within;
@@ -207,6 +268,8 @@ kept_are_replayed w text fault s t o p r u keeps limit tells log_held held =
             (subst (λ n. IsOutcome (board (unit_of log)) log (flat_at_start (image_of w.pages file) n) (Done keeps.end.flat))
             (sym head.harts) keeps.replayed);
       },
+      refl,
+      ap (λ n. image_of n file) head.pages,
       refl,
       sym keeps.reported,
     )

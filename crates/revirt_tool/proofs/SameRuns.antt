@@ -1,5 +1,5 @@
 -- Two recordings in rounds of one image, for which console and clock gave the same, are one.
-use Rattle.std.proofs.Common.{◌≡◌, ℕ, Bool, List, refl, sym, ap, ap₂, ◌∙◌, subst}
+use Rattle.std.proofs.Common.{ℕ, List, refl, sym, ap, ap₂, ◌∙◌, subst}
 use Rattle.elf_image.specs.Loading.{image_of}
 use Rattle.flat_machine.specs.State.{FlatState}
 use Rattle.flat_machine.specs.Runs.{final_of}
@@ -16,7 +16,6 @@ use Rattle.recorded_turns.specs.Recordings.{RecordsInRounds, recording, board_be
 use Rattle.report_view.specs.Report.{report}
 use Rattle.revirt_tool.specs.Tasks.{Wish}
 use Rattle.revirt_tool.specs.Recordings.{begun}
-use Rattle.revirt_tool.specs.Promise.{KeepsRecording}
 use Rattle.revirt_tool.specs.Complete.{SameAreKept}
 use Rattle.crew_parts.proofs.Turned.{then_spent}
 

@@ -1,9 +1,9 @@
 -- The moves that a replay tells of can be told as text: each has trapped, or fetched a word that is an instruction.
-use Rattle.std.proofs.Common.{◌≡◌, ℕ, ◌==◌, Bool, true, false, List, [], ◌∷◌, ◌++◌, Option, Some, None, option_map, if◌then◌else◌}
+use Rattle.std.proofs.Common.{◌≡◌, ℕ, ◌==◌, Bool, true, false, List, [], ◌∷◌, Option, Some, None, option_map, if◌then◌else◌}
 use Rattle.std.proofs.Common.{take, drop, refl, sym, ap, ◌∙◌, subst, arith, length-drop}
 use Rattle.std.proofs.lemmas.List.{length-take}
 use Rattle.std.specs.Prelude.{◌||◌, ◌&&◌, ◌<◌, ◌≤◌, ◌+◌, ◌^◌, is_some, flat_map, slice_get, length}
-use Rattle.std.specs.List.{list_all, filter_map, cons_option}
+use Rattle.std.specs.List.{list_all, cons_option}
 use Rattle.std.proofs.Math.Bool.{or-true}
 use Rattle.std.proofs.lemmas.Bool.{and_parts, and_from}
 use Rattle.std.proofs.lemmas.List.{take-append-drop}
@@ -13,24 +13,23 @@ use Rattle.rv_decode.specs.declared.Instr.{Instr}
 use Rattle.rv_decode.specs.Table.{meaning}
 use Rattle.rv_csr.specs.Traps.{pending}
 use Rattle.rv_hart.specs.State.{Hart}
-use Rattle.rv_hart.specs.Effects.{entry_by, entry_effect, decoded_effect, instr_effect}
+use Rattle.rv_hart.specs.Effects.{entry_by, decoded_effect, instr_effect}
 use Rattle.rv_hart.specs.Moves.{trap_of}
 use Rattle.elf_image.specs.Image.{Image}
 use Rattle.log_entry.specs.declared.log.Log.{Log}
-use Rattle.log_entry.specs.declared.log.Entry.{Entry}
 use Rattle.log_entry.specs.declared.log.Entry.TheVariants as entries
 use Rattle.log_entry.specs.Parts.{unit_of}
 use Rattle.flat_machine.specs.State.{FlatState}
 use Rattle.flat_machine.specs.Moves.{fetched, move_of}
-use Rattle.flat_machine.specs.Runs.{step_by, step_of, step_between}
+use Rattle.flat_machine.specs.Runs.{step_by, step_between}
 use Rattle.flat_machine.specs.declared.results.Step.{Step}
-use Rattle.orders_law.specs.Orders.{Leads, IsLeast}
+use Rattle.orders_law.specs.Orders.{IsLeast}
 use Rattle.replay_model.specs.Board.{board}
 use Rattle.replay_model.specs.State.{Replay}
 use Rattle.replay_model.specs.Items.{Item, Ended, Move, Makes, Verdict, HasEnded, Holds, CanGo, HasDiverged, told_of, goes, made as made_by, next_item}
 use Rattle.replay_model.specs.Items.{verdict, step, story}
 use Rattle.replay_law.specs.Laws.{first_replay}
-use Rattle.replay_core.specs.Stories.{moves_of, moves_between, IsStoryOf}
+use Rattle.replay_core.specs.Stories.{moves_of, IsStoryOf}
 use Rattle.report_view.specs.Trace.{is_told}
 
 -- a move that fetched nothing traps

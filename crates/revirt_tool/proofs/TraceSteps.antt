@@ -9,8 +9,7 @@ use Rattle.revirt_tool.specs.Replays.{StartAs, OutcomeAs}
 use Rattle.revirt_tool.specs.Traces.{TracesAs}
 use Rattle.revirt_tool.specs.declared.ending.Ending.{Ending}
 use Rattle.revirt_tool.specs.declared.ending.Ending.TheVariants.{Kept}
-use Rattle.revirt_tool.proofs.Recordings.{untouched}
-use Rattle.revirt_tool.proofs.ReplaySteps.{log_fails, start_fails, outcome_fails, image_since}
+use Rattle.revirt_tool.proofs.ReplaySteps.{log_fails, start_fails, outcome_fails}
 
 -- a log that isn't there for the trace
 pub no_log : (w : TraceWish) (s t : SeenShelf) (ending : Ending) → LogAs w.files.log s t (Err ending) → TracesAs w s t ending

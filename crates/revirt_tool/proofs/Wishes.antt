@@ -1,78 +1,33 @@
 -- What the words ask for.
-use Rattle.std.proofs.Common.{◌≡◌, ◌≢◌, ℕ, Bool, true, false, List, Option, Some, None, Result, Ok, Err, option_map, IfSome, inl, inr, refl, sym, ap, ◌∙◌}
+use Rattle.std.proofs.Common.{◌≡◌, ◌≢◌, ℕ, Bool, List, Option, Some, None, option_map, IfSome, inl, inr, refl, sym, ap, ◌∙◌}
 use Rattle.std.proofs.Common.{subst}
-use Rattle.std.specs.Prelude.{if◌then◌else◌, IsOk, is_ok}
+use Rattle.std.specs.Prelude.{IsOk}
 use Rattle.std.proofs.lemmas.Option.{none-some, same_Some}
 use Rattle.command_words.specs.declared.job.Job.{Job}
-use Rattle.command_words.specs.declared.job.Job.TheVariants.{Record, Replay, Inspect, Trace}
-use Rattle.command_words.specs.declared.job.Way.{Way}
+use Rattle.command_words.specs.declared.job.Job.TheVariants.{Record}
 use Rattle.command_words.specs.Texts.{word_at}
 use Rattle.command_words.specs.Allowed.{KeepsApart}
 use Rattle.command_words.specs.Grammar.{job_of}
 use Rattle.outside.specs.Seen.{SeenShelf}
 use Rattle.crew_parts.specs.Boards.{World}
-use Rattle.revirt_tool.specs.Tasks.{Wish, ReplayWish, TraceWish, Task, Records, Replays, Traces, Lists, traced, task, task_of, in_rounds, IsFetchedBy, Fetches}
+use Rattle.revirt_tool.specs.Tasks.{Wish, ReplayWish, TraceWish, Records, Replays, Traces, Lists, task, IsFetchedBy, Fetches}
 use Rattle.revirt_tool.specs.Listings.{InspectsAs}
 use Rattle.revirt_tool.specs.Replays.{ReplaysAs}
 use Rattle.revirt_tool.specs.Traces.{TracesAs}
-use Rattle.revirt_tool.specs.Serving.{RecordsAs, TaskAs, EndsAs}
+use Rattle.revirt_tool.specs.Serving.{RecordsAs, EndsAs}
 use Rattle.revirt_tool.specs.declared.ending.Ending.{Ending}
 use Rattle.revirt_tool.specs.declared.ending.Ending.TheVariants.{Usage, NotBuilt, TooLong, ImageRefused, Malformed, OtherImage, Disorderly, Diverged}
 use Rattle.revirt_tool.specs.declared.ending.Ending.TheVariants.{NoMemory, ShelfFault, Kept, Listed}
 
-abbrev wished : List ℕ → List ℕ → Option (List ℕ) → ℕ → ℕ → ℕ → ℕ → Wish
-wished image log dump harts pages limit log_limit =
-    record { image = image; log = log; dump = dump; harts = harts; pages = pages; limit = limit; log_limit = log_limit }
-
--- the task of words that are read as a job
-read_as : (words : List (List ℕ)) (job : Job) (a : Option Task) → job_of words ≡ Ok job → task_of words job ≡ a → task words ≡ a
-read_as words job a read is = ap (λ (r : Result Job ℕ). elim r [ Ok j ↦ task_of words j | Err place ↦ None ]) read ∙ is
-
--- words of a recording ask for it, by its names
-pub wishes : (words : List (List ℕ)) (job : Job) (image log harts pages limit log_limit : ℕ) (dump : Option ℕ) (rounds : Bool) (a b : List ℕ)
-    (d : Option (List ℕ))
-    → job_of words ≡ Ok job → job ≡ Record image log harts pages limit log_limit dump rounds
-    → a ≡ word_at words image → b ≡ word_at words log → d ≡ option_map (word_at words) dump
-    → task words ≡ Some (Records (wished a b d harts pages limit log_limit))
-wishes words job image log harts pages limit log_limit dump rounds a b d read is image_is log_is dump_is =
-    read_as words job _ read
-    (ap (task_of words) is
-    ∙ ap (λ n. Some (Records (wished n (word_at words log) (option_map (word_at words) dump) harts pages limit log_limit))) (sym image_is)
-    ∙ ap (λ n. Some (Records (wished a n (option_map (word_at words) dump) harts pages limit log_limit))) (sym log_is)
-    ∙ ap (λ n. Some (Records (wished a b n harts pages limit log_limit))) (sym dump_is))
-
--- and have its image fetched
+-- the words ask for a recording and have its image fetched
 pub fetches : (words : List (List ℕ)) (w : Wish) → task words ≡ Some (Records w) → Fetches words w.image
 fetches words w is = subst (λ a. IsFetchedBy a w.image) (sym is) refl
 
--- words of a replay ask for it, by its names
-pub replays : (words : List (List ℕ)) (job : Job) (image log : ℕ) (dump : Option ℕ) (way : Way) (a b : List ℕ) (d : Option (List ℕ))
-    → job_of words ≡ Ok job → job ≡ Replay image log dump way → in_rounds way ≡ false
-    → a ≡ word_at words image → b ≡ word_at words log → d ≡ option_map (word_at words) dump
-    → task words ≡ Some (Replays (record { image = a; log = b; dump = d }))
-replays words job image log dump way a b d read is alone image_is log_is dump_is =
-    read_as words job _ read
-    (ap (task_of words) is
-    ∙ ap (λ r. if r then None
-    else Some (Replays (record { image = word_at words image; log = word_at words log; dump = option_map (word_at words) dump }))) alone
-    ∙ ap (λ n. Some (Replays (record { image = n; log = word_at words log; dump = option_map (word_at words) dump }))) (sym image_is)
-    ∙ ap (λ n. Some (Replays (record { image = a; log = n; dump = option_map (word_at words) dump }))) (sym log_is)
-    ∙ ap (λ n. Some (Replays (record { image = a; log = b; dump = n }))) (sym dump_is))
-
--- but not of one in rounds
-pub replays_none : (words : List (List ℕ)) (job : Job) (image log : ℕ) (dump : Option ℕ) (way : Way)
-    → job_of words ≡ Ok job → job ≡ Replay image log dump way → in_rounds way ≡ true → task words ≡ None
-replays_none words job image log dump way read is rounds =
-    read_as words job _ read
-    (ap (task_of words) is
-    ∙ ap (λ r. if r then None
-    else Some (Replays (record { image = word_at words image; log = word_at words log; dump = option_map (word_at words) dump }))) rounds)
-
 -- words in the grammar that ask for no task end in a command that isn't built
-pub not_built : (words : List (List ℕ)) (job : Job) (s : SeenShelf) (o p : World) (ending : Ending) → job_of words ≡ Ok job → task words ≡ None
+pub not_built : (words : List (List ℕ)) (s : SeenShelf) (o p : World) (ending : Ending) → IsOk (job_of words) → task words ≡ None
     → ending ≡ NotBuilt → p ≡ o → EndsAs words s s o p ending
-not_built words job s o p ending read none is same =
-    subst (λ e. EndsAs words s s o p e) (sym is) (ap is_ok read, none, (record { held = λ told n. refl; faults = refl }, same))
+not_built words s o p ending read none is same =
+    subst (λ e. EndsAs words s s o p e) (sym is) (read, none, (record { held = λ told n. refl; faults = refl }, same))
 
 -- a replay has both files fetched
 pub fetches_log : (words : List (List ℕ)) (w : ReplayWish) → task words ≡ Some (Replays w) → Fetches words w.log
@@ -80,21 +35,6 @@ fetches_log words w is = subst (λ a. IsFetchedBy a w.log) (sym is) (inl refl)
 
 pub fetches_image : (words : List (List ℕ)) (w : ReplayWish) → task words ≡ Some (Replays w) → Fetches words w.image
 fetches_image words w is = subst (λ a. IsFetchedBy a w.image) (sym is) (inr refl)
-
--- words of a trace ask for it
-pub traces : (words : List (List ℕ)) (job : Job) (image log hart from to : ℕ) (a b : List ℕ)
-    → job_of words ≡ Ok job → job ≡ Trace image log hart from to → a ≡ word_at words image → b ≡ word_at words log
-    → task words ≡ Some (Traces (traced a b hart from to))
-traces words job image log hart from to a b read is image_is log_is =
-    read_as words job _ read
-    (ap (task_of words) is
-    ∙ ap (λ n. Some (Traces (traced n (word_at words log) hart from to))) (sym image_is)
-    ∙ ap (λ n. Some (Traces (traced a n hart from to))) (sym log_is))
-
--- words of a listing ask for it, by its log
-pub lists : (words : List (List ℕ)) (job : Job) (log : ℕ) (name : List ℕ) → job_of words ≡ Ok job → job ≡ Inspect log → name ≡ word_at words log
-    → task words ≡ Some (Lists name)
-lists words job log name read is name_is = read_as words job _ read (ap (task_of words) is ∙ ap (λ n. Some (Lists n)) (sym name_is))
 
 placed : (words : List (List ℕ)) (dump : Option ℕ) (d : List ℕ) → option_map (word_at words) dump ≡ Some d
     → (place : ℕ) × (dump ≡ Some place) × (word_at words place ≡ d)

@@ -14,6 +14,7 @@ use Rattle.log_entry.specs.Room.{log_without_room}
 use Rattle.log_format.specs.Grammar.{spelling, reading}
 use Rattle.report_view.specs.Report.{report}
 use Rattle.crew_parts.specs.Boards.{World, world}
+use Rattle.recorder.specs.Manned.{HasGiven}
 use Rattle.revirt_tool.specs.Closing.{Closes}
 use Rattle.revirt_tool.specs.Tasks.{Wish, Task, Records, Replays, Traces, Lists, task}
 use Rattle.revirt_tool.specs.Files.{IsFetched, IsUntouched, FailsToFetch, IsTooLong}
@@ -87,7 +88,7 @@ KeepsAs w log ended s t ending = ⊥
 abbrev pub RecordsAs : Wish → SeenShelf → SeenShelf → World → World → Ending → Type 0
 RecordsAs w s t o p (TooLong files.Image) = IsTooLong files.Image w.image s t × (p ≡ o)
 RecordsAs w s t o p (ImageRefused rule) = IsRefused w s rule × IsRefusal s t o p
-RecordsAs w s t o p NoMemory = IsUntouched s t × ((p ≡ o) ⊎ IsAccepted w s)
+RecordsAs w s t o p NoMemory = IsUntouched s t × ((p ≡ o) ⊎ (IsAccepted w s × HasGiven o p))
 RecordsAs w s t o p ShelfFault = (FailsToFetch s t × (p ≡ o)) ⊎ IsUnkept w s t o p
 RecordsAs w s t o p (Kept report fault) = KeepsRecording w report.items fault s t o p
 RecordsAs w s t o p ending = ⊥

@@ -1,5 +1,7 @@
 -- What the words ask for, of what the program serves (docs/command-line.md).
-use Rattle.std.specs.Prelude.{ℕ, ◌≡◌, ◌≢◌, ◌⊎◌, Bool, true, false, if◌then◌else◌, List, Option, Some, None, option_map, Ok, Err}
+use Rattle.std.specs.Prelude.{ℕ, ◌≡◌, ◌≢◌, ◌≤◌, ◌⊎◌, Bool, true, false, if◌then◌else◌, List, Option, Some, None, option_map, IfSome, Ok, Err}
+use Rattle.rv_words.specs.Limits.{most_pages}
+use Rattle.rv_words.specs.declared.shared.TheConstants.{MAX_HARTS}
 use Rattle.command_words.specs.Texts.{word_at}
 use Rattle.command_words.specs.Grammar.{job_of}
 use Rattle.command_words.specs.declared.job.Job.{Job}
@@ -9,6 +11,8 @@ use Rattle.command_words.specs.declared.job.Way.TheVariants.{Rounds}
 use Rattle.revirt_tool.specs.declared.recording.Request.{Request}
 use Rattle.revirt_tool.specs.declared.replaying.ReplayRequest.{ReplayRequest}
 use Rattle.revirt_tool.specs.declared.tracing.TraceRequest.{TraceRequest}
+use Rattle.revirt_tool.specs.declared.command.Command.{Command}
+use Rattle.revirt_tool.specs.declared.command.Command.TheVariants as commands
 
 -- what the words of a recording ask for
 pub record Wish : Type 0 where
@@ -88,6 +92,30 @@ task_of words job = None
 -- none where the words aren't in the grammar, or ask for what isn't served
 abbrev pub task : List (List ℕ) → Option Task
 task words = elim (job_of words) [ Ok job ↦ task_of words job | Err place ↦ None ]
+
+-- the task by its names
+abbrev pub task_by : Command → Option Task
+task_by (commands.Record r) = Some (Records (wish_by r))
+task_by (commands.Replay r) = Some (Replays (replay_by r))
+task_by (commands.Trace r) = Some (Traces (trace_by r))
+task_by (commands.Inspect log) = Some (Lists log.now)
+task_by commands.Unbuilt = None
+
+-- numbers in their ranges, and a dump of another name than the log's
+pub record IsAllowedRecording (r : Request) : Type 0 where
+  pub least_harts : 1 ≤ r.harts
+  pub most_harts : r.harts ≤ MAX_HARTS
+  pub least_pages : 1 ≤ r.pages
+  pub most_pages : r.pages ≤ most_pages
+  pub limit : r.limit ≤ 1000000000000
+  pub shortest : 1024 ≤ r.log_limit
+  pub longest : r.log_limit ≤ 536870912
+  pub names : IfSome r.dump (λ d. d.now ≢ r.log.now)
+
+abbrev pub IsAllowed : Command → Type 0
+IsAllowed (commands.Record r) = IsAllowedRecording r
+IsAllowed (commands.Trace r) = (r.from ≤ r.to) × (r.to ≤ 1000000000000)
+IsAllowed command = Unit {0}
 
 abbrev pub IsFetchedBy : Option Task → List ℕ → Type 0
 IsFetchedBy (Some (Records w)) name = name ≡ w.image

@@ -1,6 +1,6 @@
 //! How a command ends: its status, and the text that it prints.
 
-ghost use Rattle.std.specs.Prelude.{◌≡◌, List, ℕ, IfOk, string_bytes};
+ghost use Rattle.std.specs.Prelude.{◌≡◌, IfOk, string_bytes};
 ghost use Rattle.revirt_tool.specs.Lines.{too_long_line, disorderly_line, other_line};
 ghost use Rattle.revirt_tool.specs.Closing.{PrintsOrFails, PrintsLine, Closes};
 

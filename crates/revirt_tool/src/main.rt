@@ -1,6 +1,7 @@
 //! Records runs of a RISC-V board, and replays them, and lists what their logs say (docs/command-line.md).
 #![tactic(auto)]
 
+mod command;
 #[cfg(test)]
 mod crew_tests;
 mod ending;

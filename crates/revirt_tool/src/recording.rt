@@ -1,6 +1,6 @@
 //! The command that records a run.
 
-ghost use Rattle.std.specs.Prelude.{◌≡◌, ◌≢◌, ◌≤◌, ◌++◌, IsTrue, IsSome, Some, List, ℕ, false, length, is_ok, IfSome, OnOk, OnErr};
+ghost use Rattle.std.specs.Prelude.{◌≡◌, ◌≢◌, ◌≤◌, ◌++◌, IsTrue, IsSome, Some, false, length, IfSome, OnOk};
 ghost use Rattle.rv_words.specs.declared.shared.Cause.TheVariants as causes;
 ghost use Rattle.rv_words.specs.Limits.{most_pages};
 ghost use Rattle.rv_words.specs.declared.shared.TheConstants.{MAX_HARTS};

@@ -1,6 +1,6 @@
 //! The command that replays a log.
 
-ghost use Rattle.std.specs.Prelude.{◌≡◌, ◌≢◌, IsTrue, IfSome, false};
+ghost use Rattle.std.specs.Prelude.{◌≡◌, IsTrue, false};
 ghost use Rattle.elf_image.specs.Image.{IsWhole};
 ghost use Rattle.log_entry.specs.Range.{in_range};
 ghost use Rattle.outside.specs.Seen.{ToldBefore};

@@ -1,19 +1,20 @@
 //! The top call: what the words ask for, over the objects that are handed in.
 
-ghost use Rattle.std.specs.Prelude.{◌≡◌, ◌<◌, ℕ, List, IsTrue, IfSome, Some, None, false, length, option_map};
-ghost use Rattle.command_words.specs.Texts.{texts, word_at};
+ghost use Rattle.std.specs.Prelude.{◌≡◌, ℕ, List, false};
+ghost use Rattle.command_words.specs.Texts.{texts};
 ghost use Rattle.command_words.specs.Grammar.{asks_free_run};
-ghost use Rattle.revirt_tool.specs.Tasks.{Fetches, AsksNoRun, in_rounds};
+ghost use Rattle.revirt_tool.specs.Tasks.{Fetches, AsksNoRun};
 ghost use Rattle.revirt_tool.specs.Serving.{EndsAs, around, Serves};
 ghost use Rattle.crew_parts.specs.Boards.{world};
-ghost use Rattle.revirt_tool.specs.Complete.{AreDone, HasImage, HasLog, KeptAreLogs, ReplaysAreDone, TracesAreDone, KeptAreReplayed, SameAreKept};
+ghost use Rattle.revirt_tool.specs.Complete.{RecordingsAreDone, SameAreKept, ListingsAreDone, KeptAreLogs, ReplaysAreDone, KeptAreReplayed, TracesAreDone};
 
+use crate::command::{Command, command_of};
 use crate::ending::{Ended, Ending, close, without_run};
 use crate::inspecting::inspect;
-use crate::recording::{Request, record};
-use crate::replaying::{ReplayRequest, replay};
-use crate::tracing::{TraceRequest, trace};
-use command_words::{Job, Usage, Way, read_words};
+use crate::recording::record;
+use crate::replaying::replay;
+use crate::tracing::trace;
+use command_words::Usage;
 use outside::{Clock, Console, Gate, Shelf, Sink};
 use std::alloc::Global;
 use std::sync::Wait;
@@ -27,31 +28,7 @@ pub struct Finish<C: Console, K: Clock> {
     pub clock: K,
 }
 
-/// The word at a place.
-fn word(words: &[String], place: u64) -> &str
-    requires { place < length words.now }
-    ensures { result.now ≡ word_at (texts words.now) place }
-{
-    words[place as usize].as_str()
-}
-
-/// The word at a place, where there is one.
-fn word_where(words: &[String], place: Option<u64>) -> Option<&str>
-    requires { IfSome place (λ place. place < length words.now) }
-    ensures { option_map (λ d. d.now) result ≡ option_map (word_at (texts words.now)) place }
-{
-    match place {
-        Some(place) => Some(word(words, place)),
-        None => None,
-    }
-}
-
-fn in_rounds(way: Way) -> bool
-    ensures { result ≡ in_rounds way }
-{
-    way == Way::Rounds
-}
-
+/// Does what the words ask for.
 fn serve<T: Threads + Sync, S: Shelf, C: Console, K: Clock, G: Gate>(
     rt: &T,
     alloc: Global,
@@ -69,69 +46,13 @@ fn serve<T: Threads + Sync, S: Shelf, C: Console, K: Clock, G: Gate>(
         result.ending }
     ensures as_handed_in { AsksNoRun (texts words.now) → (result.console ≡ console) × (result.clock ≡ clock) }
 {
-    match read_words(words) {
+    match command_of(words) {
         Err(Usage { place }) => without_run(Ending::Usage { place }, console, clock),
-        Ok(
-            Job::Record {
-                image,
-                log,
-                harts,
-                pages,
-                limit,
-                log_limit,
-                dump,
-                rounds: _,
-            },
-        ) => {
-            let request = Request {
-                image: word(words, image),
-                log: word(words, log),
-                dump: word_where(words, dump),
-                harts,
-                pages,
-                limit,
-                log_limit,
-            };
-            record(rt, alloc, &request, shelf, console, clock, gate)
-        }
-        Ok(
-            Job::Replay {
-                image,
-                log,
-                dump,
-                way,
-            },
-        ) => {
-            if in_rounds(way) {
-                return without_run(Ending::NotBuilt, console, clock);
-            }
-            let request = ReplayRequest {
-                image: word(words, image),
-                log: word(words, log),
-                dump: word_where(words, dump),
-            };
-            replay(alloc, &request, shelf, console, clock)
-        }
-        Ok(
-            Job::Trace {
-                image,
-                log,
-                hart,
-                from,
-                to,
-            },
-        ) => {
-            let request = TraceRequest {
-                image: word(words, image),
-                log: word(words, log),
-                hart,
-                from,
-                to,
-            };
-            trace(alloc, &request, shelf, console, clock)
-        }
-        Ok(Job::Inspect { log }) => inspect(alloc, word(words, log), shelf, console, clock),
-        Ok(_) => without_run(Ending::NotBuilt, console, clock),
+        Ok(Command::Record(request)) => record(rt, alloc, &request, shelf, console, clock, gate),
+        Ok(Command::Replay(request)) => replay(alloc, &request, shelf, console, clock),
+        Ok(Command::Trace(request)) => trace(alloc, &request, shelf, console, clock),
+        Ok(Command::Inspect(log)) => inspect(alloc, log, shelf, console, clock),
+        Ok(Command::Unbuilt) => without_run(Ending::NotBuilt, console, clock),
     }
 }
 
@@ -193,7 +114,7 @@ pub fn revirt<T: Threads + Wait + Sync, S: Shelf, C: Console, K: Clock, G: Gate,
 
 /// A recording of an image that is told and accepted, in which nothing fails, is done, or memory ran out.
 pub fn recordings_are_done()
-    ensures { AreDone HasImage }
+    ensures { RecordingsAreDone }
 {}
 
 /// Two recordings of one image by the same words, for which console and clock gave the same, keep the same bytes.
@@ -201,10 +122,10 @@ pub fn recordings_are_one()
     ensures { SameAreKept }
 {}
 
-/// A listing of an orderly log that is told, in which nothing fails, is done, or memory ran out; a log that a recording
-/// kept is such a log.
+/// The listing of a log that is told is printed where nothing fails, with status 0 where the log is orderly and else 7, or
+/// memory ran out; a log that a recording kept is such a log, and orderly.
 pub fn listings_are_done()
-    ensures done { AreDone HasLog }
+    ensures done { ListingsAreDone }
     ensures kept { KeptAreLogs }
 {}
 
@@ -216,7 +137,8 @@ pub fn replays_are_done()
     ensures kept { KeptAreReplayed }
 {}
 
-/// A trace of such a log over such an image is told where nothing fails, or memory ran out.
+/// A trace of such a log over such an image is printed, the hart's moves in that replay, where nothing fails, or memory
+/// ran out.
 pub fn traces_are_done()
     ensures { TracesAreDone }
 {}

@@ -1,80 +1,83 @@
 use Rattle.command_words.specs.Texts.{texts}
-use Rattle.std.proofs.Common.{ap, ap₂, sym, ◌∙◌}
+use Rattle.std.proofs.Common.{ap, ap₂, subst, ◌∙◌}
 use Rattle.crew_parts.specs.Boards.{world}
-use Rattle.revirt_tool.proofs.Wishes.{wishes, fetches, replays, replays_none, replays_as, not_built, traces, traces_as, lists, lists_as, dump_is_other, ends_as}
+use Rattle.revirt_tool.specs.Tasks.{wish_by, replay_by, trace_by, task_by, IsAllowed}
+use Rattle.revirt_tool.proofs.Wishes.{fetches, fetches_log, fetches_image, not_built, ends_as, replays_as, traces_as, lists_as}
 use Rattle.revirt_tool.proofs.top.serve.Goals as goal
 
 pub record-requires-clause-has : goal.record-requires-clause-has
 record-requires-clause-has g c = λ _ _.
     let x = c.in-Ok-Record in
-    let log = c.word-in-Ok-Record in
-    c.requires.has _ (fetches (texts c.args.words.now) _
-    (wishes (texts c.args.words.now) x.field-0 x.image x.log x.harts x.pages x.limit x.log_limit x.dump x.field-0-7 c.word.result.now log.result.now
-    _ x.ensures.job x.field-0-is c.word.ensures log.ensures c.word_where.ensures))
+    c.requires.has _ (fetches (texts c.args.words.now) (wish_by x.request) (x.ensures.task ∙ ap task_by x.field-0-is))
+
+pub record-requires-clause-least_harts : goal.record-requires-clause-least_harts
+record-requires-clause-least_harts g c = λ _ _. let x = c.in-Ok-Record in (subst IsAllowed x.field-0-is x.ensures.allowed).least_harts
+
+pub record-requires-clause-most_harts : goal.record-requires-clause-most_harts
+record-requires-clause-most_harts g c = λ _ _. let x = c.in-Ok-Record in (subst IsAllowed x.field-0-is x.ensures.allowed).most_harts
+
+pub record-requires-clause-least : goal.record-requires-clause-least
+record-requires-clause-least g c = λ _ _. let x = c.in-Ok-Record in (subst IsAllowed x.field-0-is x.ensures.allowed).least_pages
+
+pub record-requires-clause-most : goal.record-requires-clause-most
+record-requires-clause-most g c = λ _ _. let x = c.in-Ok-Record in (subst IsAllowed x.field-0-is x.ensures.allowed).most_pages
+
+pub record-requires-clause-limit : goal.record-requires-clause-limit
+record-requires-clause-limit g c = λ _ _. let x = c.in-Ok-Record in (subst IsAllowed x.field-0-is x.ensures.allowed).limit
+
+pub record-requires-clause-shortest : goal.record-requires-clause-shortest
+record-requires-clause-shortest g c = λ _ _. let x = c.in-Ok-Record in (subst IsAllowed x.field-0-is x.ensures.allowed).shortest
+
+pub record-requires-clause-longest : goal.record-requires-clause-longest
+record-requires-clause-longest g c = λ _ _. let x = c.in-Ok-Record in (subst IsAllowed x.field-0-is x.ensures.allowed).longest
 
 pub record-requires-clause-names : goal.record-requires-clause-names
-record-requires-clause-names g c = λ _ _.
-    let x = c.in-Ok-Record in
-    let log = c.word-in-Ok-Record in
-    dump_is_other (λ d. d.now) c.word_where.result
-    (texts c.args.words.now) x.field-0 x.image x.log x.harts x.pages x.limit x.log_limit x.dump x.field-0-7 log.result.now x.ensures.names
-    x.field-0-is log.ensures c.word_where.ensures
+record-requires-clause-names g c = λ _ _. let x = c.in-Ok-Record in (subst IsAllowed x.field-0-is x.ensures.allowed).names
 
-pub returns-in-Ok-Record-clause-ends :
-    goal.returns-in-Ok-Record-clause-ends
+pub returns-in-Ok-Record-clause-ends : goal.returns-in-Ok-Record-clause-ends
 returns-in-Ok-Record-clause-ends g c =
     let x = c.in-Ok-Record in
-    let log = c.word-in-Ok-Record in
-    ends_as (texts c.args.words.now) _ _ _ _ _ c.record.result.ending
-    (wishes (texts c.args.words.now) x.field-0 x.image x.log x.harts x.pages x.limit x.log_limit x.dump x.field-0-7 c.word.result.now log.result.now _
-    x.ensures.job x.field-0-is c.word.ensures log.ensures c.word_where.ensures)
-    c.record.ensures.records
+    ends_as (texts c.args.words.now) (wish_by x.request) _ _ _ _ c.record.result.ending (x.ensures.task ∙ ap task_by x.field-0-is) c.record.ensures.records
 
-pub returns-in-Ok-Record-clause-as_handed_in :
-    goal.returns-in-Ok-Record-clause-as_handed_in
+pub returns-in-Ok-Record-clause-as_handed_in : goal.returns-in-Ok-Record-clause-as_handed_in
 returns-in-Ok-Record-clause-as_handed_in g c = λ asks_none.
     let x = c.in-Ok-Record in
-    let log = c.word-in-Ok-Record in
-    absurd (asks_none _
-    (wishes (texts c.args.words.now) x.field-0 x.image x.log x.harts x.pages x.limit x.log_limit x.dump x.field-0-7 c.word.result.now log.result.now _
-    x.ensures.job x.field-0-is c.word.ensures log.ensures c.word_where.ensures))
+    absurd (asks_none (wish_by x.request) (x.ensures.task ∙ ap task_by x.field-0-is))
 
-pub returns-in-Ok-Inspect-clause-ends : goal.returns-in-Ok-Inspect-clause-ends
-returns-in-Ok-Inspect-clause-ends g c =
-    let x = c.in-Ok-Inspect in
-    let log = c.word-in-Ok-Inspect in
-    lists_as (texts c.args.words.now) log.result.now _ _ _ _ c.inspect.result.ending
-    (lists (texts c.args.words.now) x.field-0 x.log log.result.now x.ensures.job x.field-0-is log.ensures)
-    c.inspect.ensures.lists
-    (ap₂ (λ a b. world (g.C.Console.seen a) (g.K.Clock.seen b)) c.inspect.ensures.console c.inspect.ensures.clock)
-
-pub returns-then-in_rounds-clause-ends : goal.returns-then-in_rounds-clause-ends
-returns-then-in_rounds-clause-ends g c =
+pub replay-requires-clause-log : goal.replay-requires-clause-log
+replay-requires-clause-log g c = λ _ _.
     let x = c.in-Ok-Replay in
-    let ended = c.without_run-then-in_rounds.ensures in
-    not_built (texts c.args.words.now) x.field-0 _ _ _ _ x.ensures.job
-    (replays_none (texts c.args.words.now) x.field-0 x.image x.log x.dump x.way x.ensures.job x.field-0-is
-    (sym c.in_rounds.ensures ∙ c.if-in_rounds.true))
-    (ap (λ e. e.ending) ended) (ap (λ e. world (g.C.Console.seen e.console) (g.K.Clock.seen e.clock)) ended)
+    c.requires.has _ (fetches_log (texts c.args.words.now) (replay_by x.request) (x.ensures.task ∙ ap task_by x.field-0-is))
 
-pub returns-else-in_rounds-clause-ends : goal.returns-else-in_rounds-clause-ends
-returns-else-in_rounds-clause-ends g c =
+pub replay-requires-clause-image : goal.replay-requires-clause-image
+replay-requires-clause-image g c = λ _ _.
     let x = c.in-Ok-Replay in
-    let image = c.word-in-Ok-Replay in
-    let log = c.word-in-Ok-Replay-2 in
-    replays_as (texts c.args.words.now) _ _ _ _ _ c.replay.result.ending
-    (replays (texts c.args.words.now) x.field-0 x.image x.log x.dump x.way image.result.now log.result.now _ x.ensures.job x.field-0-is
-    (sym c.in_rounds.ensures ∙ c.if-in_rounds.false) image.ensures log.ensures c.word_where-in-Ok-Replay.ensures)
+    c.requires.has _ (fetches_image (texts c.args.words.now) (replay_by x.request) (x.ensures.task ∙ ap task_by x.field-0-is))
+
+pub returns-in-Ok-Replay-clause-ends : goal.returns-in-Ok-Replay-clause-ends
+returns-in-Ok-Replay-clause-ends g c =
+    let x = c.in-Ok-Replay in
+    replays_as (texts c.args.words.now) (replay_by x.request) _ _ _ _ c.replay.result.ending (x.ensures.task ∙ ap task_by x.field-0-is)
     c.replay.ensures.replays
     (ap₂ (λ a b. world (g.C.Console.seen a) (g.K.Clock.seen b)) c.replay.ensures.console c.replay.ensures.clock)
 
 pub returns-in-Ok-Trace-clause-ends : goal.returns-in-Ok-Trace-clause-ends
 returns-in-Ok-Trace-clause-ends g c =
     let x = c.in-Ok-Trace in
-    let image = c.word-in-Ok-Trace in
-    let log = c.word-in-Ok-Trace-2 in
-    traces_as (texts c.args.words.now) _ _ _ _ _ c.trace.result.ending
-    (traces (texts c.args.words.now) x.field-0 x.image x.log x.hart x.from x.to image.result.now log.result.now x.ensures.job x.field-0-is
-    image.ensures log.ensures)
+    traces_as (texts c.args.words.now) (trace_by x.request) _ _ _ _ c.trace.result.ending (x.ensures.task ∙ ap task_by x.field-0-is)
     c.trace.ensures.traces
     (ap₂ (λ a b. world (g.C.Console.seen a) (g.K.Clock.seen b)) c.trace.ensures.console c.trace.ensures.clock)
+
+pub returns-in-Ok-Inspect-clause-ends : goal.returns-in-Ok-Inspect-clause-ends
+returns-in-Ok-Inspect-clause-ends g c =
+    let x = c.in-Ok-Inspect in
+    lists_as (texts c.args.words.now) x.log.now _ _ _ _ c.inspect.result.ending (x.ensures.task ∙ ap task_by x.field-0-is)
+    c.inspect.ensures.lists
+    (ap₂ (λ a b. world (g.C.Console.seen a) (g.K.Clock.seen b)) c.inspect.ensures.console c.inspect.ensures.clock)
+
+pub returns-in-Ok-Unbuilt-clause-ends : goal.returns-in-Ok-Unbuilt-clause-ends
+returns-in-Ok-Unbuilt-clause-ends g c =
+    let x = c.in-Ok-Unbuilt in
+    let ended = c.without_run-in-Ok-Unbuilt.ensures in
+    not_built (texts c.args.words.now) _ _ _ _ x.ensures.grammar (x.ensures.task ∙ ap task_by x.field-0-is)
+    (ap (λ e. e.ending) ended) (ap (λ e. world (g.C.Console.seen e.console) (g.K.Clock.seen e.clock)) ended)
