@@ -15,6 +15,8 @@ mod suits;
 mod telling;
 #[cfg(test)]
 mod tests;
+#[cfg(test)]
+mod turn_tests;
 mod turns;
 mod went;
 

@@ -3,7 +3,6 @@
 ghost use Rattle.std.specs.Prelude.{◌≡◌, IsTrue};
 ghost use Rattle.replay_core.specs.Lists.{AreHarts};
 
-use crate::notes::Notes;
 use crate::{Outcome, Stage, Told, Went, replay_list, replay_one, story};
 use elf_image::{Image, read_image};
 use flat_machine::{Final, Step};
@@ -27,7 +26,7 @@ enum Row {
 
 /// A guest and the log of a run of it.
 #[derive(Clone, Copy)]
-struct Case {
+pub(crate) struct Case {
     words: &'static [u32],
     pages: u16,
     limit: u64,
@@ -64,7 +63,7 @@ fn smallest(cause: Cause) -> Case {
 }
 
 /// The same with a line that its Poll didn't give.
-fn other_lines() -> Case {
+pub(crate) fn other_lines() -> Case {
     Case {
         words: &STOPS,
         pages: 1,
@@ -75,7 +74,7 @@ fn other_lines() -> Case {
 }
 
 /// The log of the smallest guest over another guest.
-fn other_guest() -> Case {
+pub(crate) fn other_guest() -> Case {
     Case {
         words: &RACES,
         pages: 1,
@@ -103,7 +102,7 @@ static FAULTY: [&[Row]; 1] = [&[
 ]];
 
 /// The third byte was not taken.
-fn faulty() -> Case {
+pub(crate) fn faulty() -> Case {
     Case {
         words: &SENDS,
         pages: 1,
@@ -183,7 +182,7 @@ fn race(streams: &'static [&'static [Row]]) -> Case {
 }
 
 /// Both harts load before either stores.
-fn lost_addition() -> Case {
+pub(crate) fn lost_addition() -> Case {
     race(&LOST_ADDITION)
 }
 
@@ -223,7 +222,7 @@ static DOWNGRADE: [&[Row]; 2] = [
 ];
 
 /// Hart 0 keeps only Read of the page of its reservation.
-fn downgrade() -> Case {
+pub(crate) fn downgrade() -> Case {
     Case {
         words: &RESERVES,
         pages: 2,
@@ -296,7 +295,7 @@ fn log_of(alloc: Global, case: &Case) -> Result<Log, Fail> {
     })
 }
 
-fn image_of(alloc: Global, case: &Case) -> Result<Image, Fail> {
+pub(crate) fn image_of(alloc: Global, case: &Case) -> Result<Image, Fail> {
     let mut bytes = Vec::new(alloc);
     for word in case.words {
         bytes.extend_from_slice(&word.to_le_bytes())?;
@@ -304,7 +303,7 @@ fn image_of(alloc: Global, case: &Case) -> Result<Image, Fail> {
     Ok(read_image(alloc, &bytes, case.pages.max(1).min(2))?)
 }
 
-fn ordered(alloc: Global, case: &Case) -> Result<Orderly, Fail> {
+pub(crate) fn ordered(alloc: Global, case: &Case) -> Result<Orderly, Fail> {
     let log = log_of(alloc, case)?;
     if !in_range(&log) {
         return Err(Fail::from("out of range"));
@@ -353,34 +352,22 @@ fn are_harts(log: &Log, list: &[u8]) -> bool
     true
 }
 
-/// What a replay comes to once no hart can go.
-fn ended(alloc: Global, mut stage: Stage) -> Result<Outcome, Fail> {
-    let mut notes = Notes {
-        hart: 0,
-        from: 0,
-        to: 0,
-        steps: Vec::new(alloc),
-    };
-    stage.replaying.run_out(&mut notes)?;
-    Ok(stage.outcome())
-}
-
 /// What came of the items of a list of harts, and what the replay then comes to.
 fn listed(alloc: Global, mut stage: Stage, list: &[u8]) -> Result<(Vec<Went>, Outcome), Fail> {
     if !are_harts(stage.replaying.board.log.log(), list) {
         return Err(Fail::from("no such hart"));
     }
     let answers = replay_list(alloc, &mut stage, list)?;
-    Ok((answers, ended(alloc, stage)?))
+    Ok((answers, stage.finish()))
 }
 
 /// What is looked at of an end: the counts, the bytes sent, the word stored to STOP, and a word of page 1.
 #[derive(Clone, Copy)]
-struct Seen {
-    counts: &'static [u64],
-    sent: &'static [u8],
-    stop: Option<u32>,
-    word: &'static [u8],
+pub(crate) struct Seen {
+    pub(crate) counts: &'static [u64],
+    pub(crate) sent: &'static [u8],
+    pub(crate) stop: Option<u32>,
+    pub(crate) word: &'static [u8],
 }
 
 fn is_end(end: &Final, seen: &Seen) -> bool {
@@ -391,14 +378,14 @@ fn is_end(end: &Final, seen: &Seen) -> bool {
         && end.memory.items().get(4096..4100).unwrap_or(&[]) == seen.word
 }
 
-fn is_done(outcome: &Outcome, seen: &Seen) -> bool {
+pub(crate) fn is_done(outcome: &Outcome, seen: &Seen) -> bool {
     match outcome {
         Outcome::Done(end) => is_end(end, seen),
         _ => false,
     }
 }
 
-fn has_diverged(outcome: &Outcome, at: u8, by: u64, rule: u8) -> bool {
+pub(crate) fn has_diverged(outcome: &Outcome, at: u8, by: u64, rule: u8) -> bool {
     match outcome {
         Outcome::Diverged {
             hart,
@@ -419,7 +406,7 @@ fn diverges_so(alloc: Global, case: Case, hart: u8, count: u64, why: u8) -> Resu
 }
 
 /// The race's end, with this word.
-fn raced(word: &'static [u8]) -> Seen {
+pub(crate) fn raced(word: &'static [u8]) -> Seen {
     Seen {
         counts: &[8, 8],
         sent: &[],
@@ -518,7 +505,7 @@ fn a_stage_goes_by_its_harts(rt: HostRuntime) -> Result<(), Fail> {
         return Err(Fail::from("no hart"));
     }
     assert_eq!(rt; stage.go(0), Went::Entry);
-    assert!(rt; matches!(ended(alloc, stage)?, Outcome::Done(_)));
+    assert!(rt; matches!(stage.finish(), Outcome::Done(_)));
     Ok(())
 }
 

@@ -26,7 +26,7 @@ use std::snapshot::Snapshot;
 /// A replay's board apart from the runs of its harts, with the count that each hart's turns have committed.
 #[derive(Drop)]
 pub struct ReplayBoard {
-    board: Position,
+    pub(crate) board: Position,
     counts: Vec<u64>,
     ends: Ends,
     image: Snapshot<Image>,
