@@ -1,5 +1,5 @@
 -- A replay at its start.
-use Rattle.std.proofs.Common.{◌≡◌, ℕ, ◌/◌, ◌<◌, max, List, [], map, length, slice_get, refl, sym, ap, ◌∙◌, subst, arith, zero-add}
+use Rattle.std.proofs.Common.{Some, ◌≡◌, ℕ, ◌/◌, ◌<◌, max, List, [], map, length, slice_get, refl, sym, ap, ◌∙◌, subst, arith, zero-add}
 use Rattle.std.specs.Prelude.{IsTrue}
 use Rattle.std.specs.List.{range_with_len}
 use Rattle.std.proofs.lemmas.List.{length-map}
@@ -16,6 +16,7 @@ use Rattle.order_rules.specs.Holders.{nobody}
 use Rattle.run_model.specs.Run.{Run, run_at_start}
 use Rattle.run_model.specs.Agreement.{Agrees, IsFirst}
 use Rattle.run_model.proofs.Laws.{start_agrees}
+use Rattle.hart_run.specs.Calls.{StartIsRight}
 use Rattle.device_board.specs.State.{DevicesWithRoom, devices_at_start}
 use Rattle.board_backing.specs.declared.backing.Backing.{Backing}
 use Rattle.board_backing.specs.Backing.{BacksFirst}
@@ -23,9 +24,13 @@ use Rattle.replay_law.specs.Laws.{IsReplayable, first_replay}
 use Rattle.replay_core.specs.declared.position.Position.{Position}
 use Rattle.replay_core.specs.declared.replaying.Replaying.{Replaying}
 use Rattle.board_backing.specs.Ends.{HasPlaces}
-use Rattle.replay_core.specs.Standing.{AgreeAtFirst, OrdinalsBelow, IsRoomy, Stands, IsAt}
+use Rattle.replay_core.specs.Standing.{OrdinalsBelow, IsRoomy, Stands, IsAt}
 
--- runs at their start agree with the first state
+-- each run agrees with the first state of its image, on a board of so many harts
+abbrev AgreeAtFirst : Image → ℕ → List Run → Type 0
+AgreeAtFirst image harts runs = (h : ℕ) (r : Run) → slice_get runs h ≡ Some r → StartIsRight image harts h r
+
+-- runs at their start do
 pub agree_first : (image : Image) (harts : ℕ) (runs : List Run) → IsWhole image → runs ≡ map (λ h. run_at_start h harts image) (below harts)
     → (length runs ≡ harts) × AgreeAtFirst image harts runs
 agree_first image harts runs whole are = (

@@ -19,7 +19,6 @@ use Rattle.flat_machine.specs.declared.results.Step.{Step}
 use Rattle.replay_model.specs.Items.{Item, CanGo, Obeys, item_at, verdict, step, story}
 use Rattle.run_model.specs.Run.{Run}
 use Rattle.run_model.specs.Agreement.{Agrees}
-use Rattle.hart_run.specs.Calls.{StartIsRight}
 use Rattle.board_backing.specs.Backing.{Backs}
 use Rattle.replay_law.specs.Laws.{IsReplayable, first_replay}
 use Rattle.replay_core.specs.declared.position.Position.{Position}
@@ -100,10 +99,6 @@ StaysWhere where_so old new before after = where_so → (new ≡ old) × (after 
 -- the hart's first entry left is taken, where its guard is met
 abbrev pub Passes : Position → Position → ℕ → Type 0
 Passes old new h = (e : Entry) → first_left old.log old.cursor h ≡ Some e → guard_is_met old.cursor e ≡ true → new.cursor ≡ taken old.cursor h e
-
--- each run agrees with the first state of its image, on a board of so many harts
-abbrev pub AgreeAtFirst : Image → ℕ → List Run → Type 0
-AgreeAtFirst image harts runs = (h : ℕ) (r : Run) → slice_get runs h ≡ Some r → StartIsRight image harts h r
 
 -- a board at the start of the replay of an image
 abbrev pub BeginsBoard : Log → Image → Position → Type 0

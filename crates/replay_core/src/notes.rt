@@ -101,7 +101,9 @@ impl Notes {
     }
 
     /// Of no move: they take no memory.
-    pub(crate) fn none(alloc: Global) -> Notes {
+    pub(crate) fn none(alloc: Global) -> Notes
+        ensures { result.to ≡ 0 }
+    {
         Notes::start(alloc, 0, 0, 0)
     }
 

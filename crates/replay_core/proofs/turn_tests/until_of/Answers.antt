@@ -1,4 +1,4 @@
-use Rattle.std.proofs.Common.{◌≡◌, ◌<◌, ◌∙◌, length, slice_index, subst, sym, ap, ap₂, arith}
+use Rattle.std.proofs.Common.{◌≡◌, ◌∙◌, slice_index, subst, sym, ap, ap₂, arith}
 use Rattle.std.proofs.lemmas.Option.{get_or_from_slice_get, slice_get_within}
 use Rattle.order_rules.specs.Cursor.{Cursor, first_left}
 use Rattle.flat_machine.specs.State.{FlatState}
@@ -26,7 +26,6 @@ until-requires c =
 pub returns : goal.returns
 returns c =
     let kept = c.board.invariant in
-    let log = c.board.inside.board.log in
     let from = states_are (plain_of c.board.inside.board c.board.inside.image.value c.board.inside.counts.items) kept.at kept.reaches in
     let agrees = subst (λ (p : Plain). Agrees c.args.run.now c.args.hart (state_of p)) (sym c.board.view_is) c.requires in
     let own : slice_index kept.at.flat.counts c.args.hart ≡ c.args.run.now.count =
