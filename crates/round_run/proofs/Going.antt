@@ -5,32 +5,30 @@ use Rattle.std.proofs.lemmas.Option.{get_or_from_slice_get, same_Some, slice_get
 use Rattle.std.proofs.lemmas.Bool.Decides.{eqb_tells}
 use Rattle.std.proofs.lemmas.List.{get_or-set_other, length-set, take-append-le, take_all}
 use Rattle.shared_types.proofs.Lists.{found_at, set_here}
-use Rattle.rv_words.specs.Limits.{page_bytes}
 use Rattle.replay_model.specs.Board.{board}
 use Rattle.replay_model.specs.State.{IsCrewState}
 use Rattle.run_model.specs.Run.{Run}
 use Rattle.run_model.specs.Legs.{MakesLeg}
-use Rattle.turn_model.specs.Board as model
-use Rattle.turn_model.specs.Board.{Go, Hold, Rest}
 use Rattle.turn_model.specs.Lists.{leg_by}
 use Rattle.crew_parts.specs.Boards.{Plain, IsBoardOf, the_machine, board_of, spent, state_of, terms_of, told_to}
-use Rattle.crew_parts.specs.Parts.{IsPart, IsPartAdvanced}
+use Rattle.crew_parts.specs.Parts.{IsPartAdvanced, until_by}
 use Rattle.crew_parts.proofs.Laws.{parts_have_unit}
 use Rattle.crew_core.specs.declared.order.Order.{Order}
+use Rattle.crew_core.specs.declared.order.Order.TheVariants.{Go, Hold, Rest}
 use Rattle.crew_core.specs.Orders.{told_of}
 use Rattle.recorded_turns.proofs.Advanced.{legs_advance}
 use Rattle.recorder.specs.Manned.{IsManned, leg_in, still}
 use Rattle.crew_core.proofs.Hands.{counted}
 use Rattle.recorder.proofs.Manning.{may_go, order_there, part_of_still}
-use Rattle.round_run.specs.Legs.{Goes, HaveGone, HaveStood, IsReady, MayGo}
+use Rattle.round_run.specs.Legs.{AreUntils, Goes, HaveGone, HaveStood, IsReady, IsWithin, MayGo, until_told}
 
 -- a run that was not told to go on has no leg
 rests : (p : Plain) (h : ℕ) (r after : Run) → IsPartAdvanced p h 0 r → leg_in p h ≡ 0 → after ≡ r → IsPartAdvanced p h (leg_in p h) after
 rests p h r after is none same = subst (λ n. IsPartAdvanced p h n after) (sym none) (subst (IsPartAdvanced p h 0) (sym same) is)
 
 -- the leg of one hart
-goes_leg : (p : Plain) (h : ℕ) (r after : Run) (order : Option model.Order) → IsBoardOf p → h < p.harts → IsPartAdvanced p h 0 r → told_to p h ≡ order
-    → Goes r after order → IsPartAdvanced p h (leg_in p h) after
+goes_leg : (p : Plain) (h : ℕ) (r after : Run) (order : Option Order) → IsBoardOf p → h < p.harts → IsPartAdvanced p h 0 r → told_to p h ≡ told_of order
+    → Goes r after (until_told order) → IsPartAdvanced p h (leg_in p h) after
 goes_leg p h r after None holds inside is is_told went = rests p h r after is (ap (leg_by the_machine (terms_of p) h (board_of p spent)) is_told) went
 goes_leg p h r after (Some Rest) holds inside is is_told went =
     rests p h r after is (ap (leg_by the_machine (terms_of p) h (board_of p spent)) is_told) went
@@ -43,29 +41,40 @@ goes_leg p h r after (Some (Go until)) holds inside is is_told went =
     legs_advance p h until r after went.0 holds.whole holds.reached holds.counts is_told part went.1
     (subst (λ u. MakesLeg u after went.0 h until (state_of p)) unit leg)
 
+within_told : (r : Run) (order : Option Order) → r.count ≤ until_by r.count (told_of order) → IsWithin r (until_told order)
+within_told r None less = tt
+within_told r (Some Rest) less = tt
+within_told r (Some (Hold page g)) less = tt
+within_told r (Some (Go until)) less = less
+
 -- the runs of a board, by place
 run_at : (runs : List Run) (h : ℕ) (r : Run) → h < length runs → slice_get runs h ≡ Some (slice_index_or runs h r)
 run_at runs h r less = slice_get-get_or runs h r less
 
-pub all_may_go : (p : Plain) (runs : List Run) (orders : List (Option Order)) → IsBoardOf p → IsManned p runs orders still → MayGo runs orders
-all_may_go p runs orders holds is h r less at =
+pub all_may_go : (p : Plain) (runs : List Run) (orders : List (Option Order)) → (untils : List (Option ℕ)) → IsBoardOf p → IsManned p runs orders still
+    → AreUntils orders untils → MayGo runs untils
+all_may_go p runs orders untils holds is are h r less at =
     let inside : h < p.harts = (let n = is.number in omega (arith, less, n)) in
     let order = slice_index_or orders h None in
-    may_go p h r order holds (is.each h r (slice_get_read runs (length runs) h r refl less at))
-    (is.told h order (order_there p runs orders still h h is inside refl) inside)
+    subst (IsWithin r) (sym (are h (let n = is.places in omega (arith, n, inside))))
+    (within_told r order
+    (may_go p h r order holds (is.each h r (slice_get_read runs (length runs) h r refl less at))
+    (is.told h order (order_there p runs orders still h h is inside refl) inside)))
 
-pub all_ready : (p : Plain) (runs after : List Run) (orders : List (Option Order)) → IsBoardOf p → IsManned p runs orders still → HaveGone runs after orders
-    → IsReady p after orders true
-all_ready p runs after orders holds is gone = record {
+pub all_ready : (p : Plain) (runs after : List Run) (orders : List (Option Order)) (untils : List (Option ℕ)) → IsBoardOf p
+    → IsManned p runs orders still → AreUntils orders untils → HaveGone runs after untils → IsReady p after orders true
+all_ready p runs after orders untils holds is are gone = record {
   number = gone.number ∙ is.number;
   places = is.places;
   each = λ h x at.
       let less : h < length runs = (let l = slice_get_within after h x at in let n = gone.number in omega (arith, l, n)) in
       let inside : h < p.harts = (let n = is.number in omega (arith, less, n)) in
       let order = slice_index_or orders h None in
-      let went = gone.each h x less in
+      let went =
+      subst (Goes (slice_index_or runs h x) (slice_index_or after h x)) (are h (let n = is.places in omega (arith, n, inside))) (gone.each h x less)
+      in
       subst (IsPartAdvanced p h (leg_in p h)) (get_or_from_slice_get after h x x at)
-      (goes_leg p h (slice_index_or runs h x) (slice_index_or after h x) (told_of order) holds inside
+      (goes_leg p h (slice_index_or runs h x) (slice_index_or after h x) order holds inside
       (is.each h (slice_index_or runs h x) (run_at runs h x less)) (is.told h order (order_there p runs orders still h h is inside refl) inside) went);
   told = is.told;
 }
@@ -95,6 +104,27 @@ counts_more runs counts i n x few inside value is are = record {
         ∙ ap (λ (z : Run). z.count)
         (same_Some _ _ (sym (slice_get_read runs (length runs) i x refl inside value) ∙ ap (slice_get runs) (sym same.1) ∙ at))
     | inr other ↦ get_or-set_other counts i h n 0 other.1 ∙ are.so h r (let k = other.1 in omega (arith, less, k)) at
+  ];
+}
+
+-- counts up to which harts may move, as far as they are told
+pub record UntilsTo (orders : List (Option Order)) (untils : List (Option ℕ)) (i : ℕ) : Type 0 where
+  pub places : length untils ≡ 8
+  pub so : (h : ℕ) → h < i → slice_index_or untils h None ≡ until_told (slice_index_or orders h None)
+
+pub no_untils : (orders : List (Option Order)) (untils : List (Option ℕ)) → length untils ≡ 8 → UntilsTo orders untils 0
+no_untils orders untils size = record { places = size; so = λ h less. absurd (omega (arith, less)) }
+
+pub untils_more : (orders : List (Option Order)) (untils : List (Option ℕ)) (i : ℕ) (x : Option Order) (n : Option ℕ) → i < 8 → x ≡ slice_index_or orders i None
+    → n ≡ until_told x → UntilsTo orders untils i → UntilsTo orders (slice_set untils i n) (i + 1)
+untils_more orders untils i x n few value is are = record {
+  places = length-set untils i n ∙ are.places;
+  so = λ h less. elim (eqb_tells h i) [
+    | inl same ↦
+        ap (λ k. slice_index_or (slice_set untils i n) k None) same.1
+        ∙ get_or_from_slice_get (slice_set untils i n) i n None (set_here untils i n (let k = are.places in omega (arith, few, k))) ∙ is
+        ∙ ap until_told (value ∙ ap (λ k. slice_index_or orders k None) (sym same.1))
+    | inr other ↦ get_or-set_other untils i h n None other.1 ∙ are.so h (let k = other.1 in omega (arith, less, k))
   ];
 }
 

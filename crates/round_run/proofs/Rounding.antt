@@ -1,7 +1,7 @@
 -- Rounds until the board is over, and the last turns.
-use Rattle.std.proofs.Common.{◌≡◌, ◌≢◌, ◌⊎◌, inl, inr, ℕ, zero, suc, ◌+◌, ◌*◌, ◌<◌, ◌≤◌, ◌==◌, not, nat_lt, Bool, true, false, List, [], ◌∷◌, ◌++◌, map}
+use Rattle.std.proofs.Common.{◌≡◌, ◌≢◌, ◌⊎◌, inl, inr, ℕ, zero, suc, ◌+◌, ◌*◌, ◌<◌, ◌≤◌, ◌==◌, not, nat_lt, Bool, true, false, List, [], ◌∷◌, ◌++◌}
 use Rattle.std.proofs.Common.{length, replicate}
-use Rattle.std.proofs.Common.{slice_get, slice_index, Option, Some, None, unwrap_or, refl, sym, ap, ap₂, ◌∙◌, subst, arith, if◌then◌else◌}
+use Rattle.std.proofs.Common.{slice_get, slice_index, Option, Some, None, unwrap_or, refl, sym, ap, ◌∙◌, subst, arith, if◌then◌else◌}
 use Rattle.std.proofs.lemmas.Bool.{lt-ltb, le-ltb, ltb-false, ltb-true}
 use Rattle.std.proofs.lemmas.Bool.Decides.{eqb_tells}
 use Rattle.std.proofs.Math.Nat.{mul-le-mul}
@@ -11,14 +11,11 @@ use Rattle.elf_image.specs.Image.{Image, IsWhole}
 use Rattle.log_entry.specs.declared.log.Log.{Log}
 use Rattle.flat_machine.specs.declared.results.Final.{Final}
 use Rattle.run_model.specs.Run.{Run}
-use Rattle.turn_model.specs.Board as model
 use Rattle.turn_model.specs.Board.{harts, is_over}
 use Rattle.turn_model.specs.Lists.{leg_by, whole_leg}
 use Rattle.turn_model.specs.Rounds.{last_turns, round, rounds}
-use Rattle.turn_laws.specs.EndLaws.{AreInLimits}
-use Rattle.crew_parts.specs.Boards.{Plain, World, EndsAs, IsBoardOf, the_machine, board_of, is_over_in, plain_at_start, spent, state_of, terms_of, told_to}
-use Rattle.crew_parts.specs.Laws.{IsTurnOf}
-use Rattle.crew_parts.specs.Parts.{IsPartAdvanced, Part, part_of}
+use Rattle.crew_parts.specs.Boards.{Plain, World, EndsAs, IsBoardOf, the_machine, board_of, is_over_in, plain_at_start, spent, terms_of, told_to}
+use Rattle.crew_parts.specs.Parts.{IsPartAdvanced}
 use Rattle.crew_parts.proofs.Laws.{moves_are_told}
 use Rattle.crew_core.specs.declared.order.Order.{Order}
 use Rattle.recorded_turns.specs.Laws.{left_in}

@@ -1,7 +1,6 @@
 -- Sweeps, turn by turn.
-use Rattle.std.proofs.Common.{◌≡◌, ◌≢◌, ◌⊎◌, inl, inr, ℕ, zero, suc, ◌+◌, ◌%◌, ◌<◌, ◌≤◌, ◌==◌, ◌||◌, Bool, true, false, List, [], ◌∷◌, ◌++◌, map, length}
-use Rattle.std.proofs.Common.{slice_get, Option, Some, None, refl, sym, ap, ap₂, ◌∙◌, subst, arith, if◌then◌else◌, eq-or-lt_of_le, le_of_suc-le-suc}
-use Rattle.std.specs.List.{list_any}
+use Rattle.std.proofs.Common.{◌≡◌, ◌≢◌, ◌⊎◌, inl, inr, ℕ, zero, suc, ◌+◌, ◌%◌, ◌<◌, ◌≤◌, ◌==◌, ◌||◌, Bool, true, false, List, [], ◌∷◌, ◌++◌}
+use Rattle.std.proofs.Common.{Option, Some, None, refl, sym, ap, ◌∙◌, subst, arith, if◌then◌else◌, eq-or-lt_of_le, le_of_suc-le-suc}
 use Rattle.std.proofs.lemmas.Bool.{eq-eqb, ne_eqb, or_from, or_left, or_right}
 use Rattle.std.proofs.lemmas.Bool.Decides.{eqb_tells}
 use Rattle.std.proofs.lemmas.List.{map-append}
@@ -13,7 +12,7 @@ use Rattle.run_model.specs.Run.{Run}
 use Rattle.turn_model.specs.Board as model
 use Rattle.turn_model.specs.Board.{Go, Hold, Rest, harts}
 use Rattle.turn_model.specs.Lists.{leg_by, whole_leg}
-use Rattle.turn_model.specs.Rounds.{round_from, sweep}
+use Rattle.turn_model.specs.Rounds.{sweep}
 use Rattle.turn_laws.proofs.LegsAtOnce.{all_come, apart}
 use Rattle.crew_parts.specs.Boards.{Plain, IsBoardOf, the_machine, board_of, spent, state_of, terms_of, told_to}
 use Rattle.crew_parts.specs.Parts.{IsPartAdvanced}

@@ -1,32 +1,42 @@
 -- Legs that are made beside each other (docs/recorder.md).
-use Rattle.std.specs.Prelude.{ℕ, ◌≡◌, ◌<◌, ◌≤◌, Bool, List, length, slice_index, slice_index_or, Option, Some, None, if◌then◌else◌}
+use Rattle.std.specs.Prelude.{ℕ, ◌≡◌, ◌<◌, ◌≤◌, Bool, List, length, slice_index, slice_index_or, Option, Some, None, IfSome, if◌then◌else◌}
 use Rattle.run_model.specs.Run.{Run}
 use Rattle.run_model.specs.Legs.{KeepsPages}
 use Rattle.run_model.specs.declared.asked.Pause.{Pause}
 use Rattle.hart_run.specs.Calls.{LegAgrees}
-use Rattle.turn_model.specs.Board as model
-use Rattle.turn_model.specs.Board.{Go}
 use Rattle.crew_parts.specs.Boards.{Plain}
-use Rattle.crew_parts.specs.Parts.{until_by}
 use Rattle.crew_core.specs.declared.order.Order.{Order}
-use Rattle.crew_core.specs.Orders.{told_of}
+use Rattle.crew_core.specs.declared.order.Order.TheVariants.{Go}
 use Rattle.recorder.specs.Manned.{IsManned, leg_in}
 
--- the run made its leg up to what its hart was told, if it was told to go on
-abbrev pub Goes : Run → Run → Option model.Order → Type 0
-Goes old new (Some (Go until)) = (pause : Pause) × KeepsPages old new × LegAgrees old new until pause
-Goes old new order = new ≡ old
+-- up to which count a hart may move that was told this, if it may move
+abbrev pub until_told : Option Order → Option ℕ
+until_told (Some (Go until)) = Some until
+until_told order = None
 
--- each run stands no further than its hart was told
-abbrev pub MayGo : List Run → List (Option Order) → Type 0
-MayGo runs orders = (h : ℕ) (r : Run) → h < length runs → r ≡ slice_index_or runs h r
-    → r.count ≤ until_by r.count (told_of (slice_index_or orders h None))
+-- up to which counts the harts may move that were told these
+abbrev pub AreUntils : List (Option Order) → List (Option ℕ) → Type 0
+AreUntils orders untils = (h : ℕ) → h < length orders → slice_index_or untils h None ≡ until_told (slice_index_or orders h None)
+
+-- the run stands no further than its hart may move
+abbrev pub IsWithin : Run → Option ℕ → Type 0
+IsWithin r until = IfSome until (λ n. r.count ≤ n)
+
+-- the run made its leg up to this count, if its hart may move
+abbrev pub Goes : Run → Run → Option ℕ → Type 0
+Goes old new (Some until) = (pause : Pause) × KeepsPages old new × LegAgrees old new until pause
+Goes old new None = new ≡ old
+
+-- each run stands no further than its hart may move
+abbrev pub MayGo : List Run → List (Option ℕ) → Type 0
+MayGo runs untils = (h : ℕ) (r : Run) → h < length runs → r ≡ slice_index_or runs h r
+    → IsWithin r (slice_index_or untils h None)
 
 -- each run made its leg
-pub record HaveGone (old new : List Run) (orders : List (Option Order)) : Type 0 where
+pub record HaveGone (old new : List Run) (untils : List (Option ℕ)) : Type 0 where
   pub number : length new ≡ length old
   pub each : (h : ℕ) (d : Run) → h < length old
-      → Goes (slice_index_or old h d) (slice_index_or new h d) (told_of (slice_index_or orders h None))
+      → Goes (slice_index_or old h d) (slice_index_or new h d) (slice_index_or untils h None)
 
 -- how many moves a run has made: those of the whole leg, or none
 abbrev pub ready_moves : Bool → Plain → ℕ → ℕ

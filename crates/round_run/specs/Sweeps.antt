@@ -1,5 +1,5 @@
 -- Sweeps and rounds (docs/recorder.md).
-use Rattle.std.specs.Prelude.{ℕ, ◌≡◌, ◌+◌, ◌%◌, ◌==◌, Bool, true, List, map, Option, if◌then◌else◌}
+use Rattle.std.specs.Prelude.{ℕ, ◌+◌, ◌%◌, ◌==◌, Bool, true, List, map, Option, if◌then◌else◌}
 use Rattle.std.specs.List.{list_any}
 use Rattle.orders_law.specs.Orders.{below}
 use Rattle.run_model.specs.Run.{Run}

@@ -1,10 +1,8 @@
 //! The legs of all harts, all at once.
 
 ghost use Rattle.std.specs.Prelude.{◌≡◌, ◌<◌, ◌≤◌, ℕ, None, Some, length, slice_get, slice_index, slice_index_or};
-ghost use Rattle.crew_parts.specs.Parts.{until_by};
-ghost use Rattle.crew_core.specs.Orders.{told_of};
 ghost use Rattle.run_model.specs.Run.{Run};
-ghost use Rattle.round_run.specs.Legs.{Goes, HaveGone, MayGo};
+ghost use Rattle.round_run.specs.Legs.{AreUntils, Goes, HaveGone, IsWithin, MayGo, until_told};
 
 use crew_core::Order;
 use hart_run::HartRun;
@@ -13,35 +11,55 @@ use recorder::PLACES;
 use std::thread;
 use std::thread::Threads;
 
-/// The leg of a hart that was told to go on, between two passes of the gate.
-fn leg<G: Gate>(run: &mut HartRun, order: Option<Order>, gate: &G, hart: u8, number: u64)
-    requires { run.old.count ≤ until_by run.old.count (told_of order) }
-    ensures { Goes run.old run.new (told_of order) }
+/// Up to which count a hart may move that was told this.
+fn until_of(order: Option<Order>) -> Option<u64>
+    ensures { result ≡ until_told order }
 {
-    if let Some(Order::Go { until }) = order {
+    match order {
+        Some(Order::Go { until }) => Some(until),
+        _ => None,
+    }
+}
+
+/// Up to which counts the harts may move.
+pub(crate) fn untils_of(orders: &[Option<Order>; PLACES]) -> [Option<u64>; PLACES]
+    ensures { AreUntils orders.now result }
+{
+    let mut untils = [None; PLACES];
+    for (place, order) in orders.iter().enumerate() {
+        untils[place] = until_of(*order);
+    }
+    untils
+}
+
+/// The leg of a hart that may move, between two passes of the gate.
+fn leg<G: Gate>(run: &mut HartRun, until: Option<u64>, gate: &G, hart: u8, number: u64)
+    requires { IsWithin run.old until }
+    ensures { Goes run.old run.new until }
+{
+    if let Some(until) = until {
         gate.pass(hart, number, false);
         let _ = run.advance(until);
         gate.pass(hart, number, true);
     }
 }
 
-/// The legs of all harts, each the one of this number.
+/// The legs of all harts that may move, each up to its count, and the one of this number.
 pub(crate) fn legs<T: Threads + Sync, G: Gate>(
     rt: &T,
     runs: &mut [HartRun],
-    orders: &[Option<Order>; PLACES],
+    untils: &[Option<u64>; PLACES],
     gate: &G,
     numbers: &[u64; PLACES],
 )
     requires few { length runs.old ≤ PLACES }
-    requires may { MayGo runs.old orders.now }
-    ensures { HaveGone runs.old runs.new orders.now }
+    requires may { MayGo runs.old untils.now }
+    ensures { HaveGone runs.old runs.new untils.now }
 {
     let go = |place: usize, run: &mut HartRun|
-        requires { (place < PLACES)
-            × (run.old.count ≤ until_by run.old.count (told_of (slice_index_or orders.now place None))) }
-        ensures { Goes run.old run.new (told_of (slice_index_or orders.entry.now place None)) }
-    { leg(run, orders[place], gate, place as u8, numbers[place]) };
+        requires { (place < PLACES) × IsWithin run.old (slice_index_or untils.now place None) }
+        ensures { Goes run.old run.new (slice_index_or untils.entry.now place None) }
+    { leg(run, untils[place], gate, place as u8, numbers[place]) };
     thread::for_each_mut(rt, runs, PLACES, &go);
 }
 
@@ -57,10 +75,10 @@ pub(crate) fn counts_of(runs: &[HartRun]) -> [u64; PLACES]
     counts
 }
 
-/// The numbers of the next legs, where harts that were told to go on made one.
-pub(crate) fn next_legs(orders: &[Option<Order>; PLACES], numbers: &mut [u64; PLACES]) {
-    for (number, order) in numbers.iter_mut().zip(orders) {
-        if let Some(Order::Go { .. }) = order {
+/// The numbers of the next legs, where harts that may move made one.
+pub(crate) fn next_legs(untils: &[Option<u64>; PLACES], numbers: &mut [u64; PLACES]) {
+    for (number, until) in numbers.iter_mut().zip(untils) {
+        if until.is_some() {
             *number = number.saturating_add(1);
         }
     }

@@ -8,7 +8,7 @@ ghost use Rattle.round_run.specs.Legs.{HaveStood, IsReady};
 ghost use Rattle.round_run.specs.Sweeps.{TakesRound, TakesSweep};
 ghost use Rattle.round_run.specs.Rounds.{LastTurn, RoundsEnd, TakesAll, TakesLast, last_moves, start_of};
 
-use crate::legs::{counts_of, legs, next_legs};
+use crate::legs::{counts_of, legs, next_legs, untils_of};
 use crew_core::{OutOfMemory, Recorded};
 use elf_image::Image;
 use outside::{Clock, Console, Gate};
@@ -106,14 +106,15 @@ impl<C: Console, K: Clock> Rounds<C, K> {
     {
         let _ = self.recording.board.harts();
         self.stood = counts_of(&self.recording.runs);
+        let untils = untils_of(&self.recording.orders);
         legs(
             rt,
             self.recording.runs.as_mut_slice(),
-            &self.recording.orders,
+            &untils,
             gate,
             &self.legs,
         );
-        next_legs(&self.recording.orders, &mut self.legs);
+        next_legs(&untils, &mut self.legs);
     }
 
     /// Rounds, with the legs behind each, until the board is over.

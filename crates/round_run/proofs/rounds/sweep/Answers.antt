@@ -1,4 +1,4 @@
-use Rattle.std.proofs.Common.{◌≡◌, ◌+◌, ◌%◌, ◌<◌, ap, ap₂, ◌∙◌, arith, subst}
+use Rattle.std.proofs.Common.{◌≡◌, ◌+◌, ◌%◌, ap, ap₂, ◌∙◌, arith, subst}
 use Rattle.recorder.proofs.Manning.{given_then}
 use Rattle.round_run.specs.Sweeps.{SweepsTo, harts_by, moves_to_come}
 use Rattle.round_run.proofs.Sweeping.{mod_inside, sweep_begins, sweep_ends, sweep_step}

@@ -1,4 +1,4 @@
-use Rattle.std.proofs.Common.{◌≡◌, ap, ◌∙◌, arith, subst, sym}
+use Rattle.std.proofs.Common.{◌≡◌, arith, subst, sym}
 use Rattle.recorder.proofs.Manning.{given_then}
 use Rattle.round_run.specs.Rounds.{LastTurnsTo}
 use Rattle.round_run.proofs.Rounding.{last_begins, last_ends, last_more}
