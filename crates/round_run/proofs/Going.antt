@@ -48,7 +48,7 @@ within_told r (Some (Hold page g)) less = tt
 within_told r (Some (Go until)) less = less
 
 -- the runs of a board, by place
-run_at : (runs : List Run) (h : ℕ) (r : Run) → h < length runs → slice_get runs h ≡ Some (slice_index_or runs h r)
+pub run_at : (runs : List Run) (h : ℕ) (r : Run) → h < length runs → slice_get runs h ≡ Some (slice_index_or runs h r)
 run_at runs h r less = slice_get-get_or runs h r less
 
 pub all_may_go : (p : Plain) (runs : List Run) (orders : List (Option Order)) → (untils : List (Option ℕ)) → IsBoardOf p → IsManned p runs orders still

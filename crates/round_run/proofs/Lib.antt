@@ -1,3 +1,5 @@
 pub mod Sweeping
 pub mod Going
 pub mod Rounding
+pub mod Replaying
+pub mod Settling

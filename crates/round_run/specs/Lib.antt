@@ -1,3 +1,4 @@
 pub mod Legs
 pub mod Sweeps
 pub mod Rounds
+pub mod Replays

@@ -11,7 +11,7 @@ use std::alloc::Global;
 use std::process::Abort;
 use std::thread::Threads;
 
-fn image(rt: &impl Abort, alloc: Global, words: &[u32], pages: u16) -> Image {
+pub(crate) fn image(rt: &impl Abort, alloc: Global, words: &[u32], pages: u16) -> Image {
     assert!(rt; 1 <= pages && pages <= 4096);
     let mut bytes = Vec::new(alloc);
     for word in words {
@@ -23,7 +23,7 @@ fn image(rt: &impl Abort, alloc: Global, words: &[u32], pages: u16) -> Image {
 }
 
 /// A board in rounds, of two pages.
-fn recorded<R: Abort + Threads + Sync, G: Gate>(
+pub(crate) fn recorded<R: Abort + Threads + Sync, G: Gate>(
     rt: &R,
     alloc: Global,
     words: &[u32],
@@ -44,14 +44,14 @@ fn recorded<R: Abort + Threads + Sync, G: Gate>(
     }
 }
 
-fn bytes_of(rt: &impl Abort, alloc: Global, log: &Log) -> Vec<u8> {
+pub(crate) fn bytes_of(rt: &impl Abort, alloc: Global, log: &Log) -> Vec<u8> {
     assert!(rt; in_range(log));
     write_log(alloc, log).expect(rt, "memory")
 }
 
 // lui x1, 0x80001; addi x3, x0, 1000; addi x2, x0, 1; amoadd.w x0, x2, (x1); addi x3, x3, -1; bne x3, x0, -8;
 // jal x0, 0
-const AMOS: [u32; 7] = [
+pub(crate) const AMOS: [u32; 7] = [
     0x8000_10b7,
     0x3e80_0193,
     0x0010_0113,
@@ -84,7 +84,7 @@ fn same_bytes<R: Abort + Threads + Sync>(rt: &R, alloc: Global) -> bool {
 }
 
 // lui x1, 0x10000; addi x2, x0, 7; sw x2, 8(x1): the store to STOP.
-const STOPS: [u32; 3] = [0x1000_00b7, 0x0070_0113, 0x0020_a423];
+pub(crate) const STOPS: [u32; 3] = [0x1000_00b7, 0x0070_0113, 0x0020_a423];
 
 // Each hart makes its first two moves beside the others; hart 1 comes first in the next round.
 fn stopped_by_hart_1<R: Abort + Threads + Sync>(rt: &R, alloc: Global) -> bool {
@@ -95,7 +95,7 @@ fn stopped_by_hart_1<R: Abort + Threads + Sync>(rt: &R, alloc: Global) -> bool {
 }
 
 // jal x0, 0
-const LOOPS: [u32; 1] = [0x0000_006f];
+pub(crate) const LOOPS: [u32; 1] = [0x0000_006f];
 
 fn beside_each_other<R: Abort + Threads + Sync>(rt: &R, alloc: Global) -> bool {
     let gate = HoldGate::start(0);

@@ -12,4 +12,5 @@ loop-place-preserved c =
 
 pub returns : goal.returns
 returns c = λ h less.
-    c.loop-place.invariant.so h (let e = c.loop-place-test.false in let k = c.loop-place.auto.place-end in let l = c.told-orders in omega (arith, less, e, k, l))
+    c.loop-place.invariant.so h
+    (let e = c.loop-place-test.false in let k = c.loop-place.auto.place-end in let l = c.told-orders in omega (arith, less, e, k, l))
