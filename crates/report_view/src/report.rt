@@ -40,7 +40,7 @@ fn put_spaced(alloc: Global, out: &mut String, n: u32) -> Result<(), AllocError>
 }
 
 #[tactic(auto, unfolding(crate::specs::Report::digest))]
-fn put_digest(alloc: Global, out: &mut String, bytes: &[u8]) -> Result<(), AllocError>
+pub(crate) fn put_digest(alloc: Global, out: &mut String, bytes: &[u8]) -> Result<(), AllocError>
     ensures { OnOk result (string_bytes out.new ≡ string_bytes out.old ++ digest bytes.now) }
 {
     let digest = Sha256::digest(bytes);
@@ -48,7 +48,7 @@ fn put_digest(alloc: Global, out: &mut String, bytes: &[u8]) -> Result<(), Alloc
 }
 
 #[tactic(auto, unfolding(crate::specs::Report::cause_line))]
-fn put_cause(out: &mut String, cause: Cause, stop: Option<u32>) -> Result<(), AllocError>
+pub(crate) fn put_cause(out: &mut String, cause: Cause, stop: Option<u32>) -> Result<(), AllocError>
     requires { cause ≡ Stop → IsSome stop }
     ensures { OnOk result (string_bytes out.new ≡ string_bytes out.old ++ cause_line cause stop) }
 {

@@ -4,7 +4,7 @@ use Rattle.std.proofs.Common.{sym, ap, ◌∙◌, subst, arith, true≢false, �
 use Rattle.std.proofs.lemmas.Option.{none-some, same_Some}
 use Rattle.rv_words.specs.declared.shared.Cause.{Cause}
 use Rattle.rv_words.specs.declared.shared.Cause.TheVariants as causes
-use Rattle.std.specs.Prelude.{◌↔◌, is_ok, IsTrue}
+use Rattle.std.specs.Prelude.{◌⊎◌, ◌↔◌, is_ok, IsTrue}
 use Rattle.outside.specs.Causes.{Rose}
 use Rattle.elf_image.specs.Rules.{broken_rule}
 use Rattle.command_words.specs.Grammar.{job_of}
@@ -13,7 +13,7 @@ use Rattle.crew_parts.specs.Boards.{World}
 use Rattle.crew_parts.specs.Turns.{CountsFaults}
 use Rattle.outside.specs.Seen.{SeenShelf, SeenSink, HoldsMore}
 use Rattle.revirt_tool.specs.Serving.{Around, RecordsAs, TaskAs}
-use Rattle.revirt_tool.specs.Tasks.{Wish, Task, Records, Lists, task, task_of}
+use Rattle.revirt_tool.specs.Tasks.{Wish, Task, Records, Lists, Samples, task, task_of}
 use Rattle.revirt_tool.specs.Files.{longest, IsUntouched}
 use Rattle.revirt_tool.specs.Listings.{InspectsAs, IsListing, IsLogOf, IsMalformed}
 use Rattle.order_rules.specs.Orderly.{IsOrderly, IsLeastBreak}
@@ -24,12 +24,13 @@ use Rattle.log_entry.specs.Room.{log_without_room}
 use Rattle.log_format.specs.Grammar.{spelling, reading}
 use Rattle.log_format.specs.Format.{Bad}
 use Rattle.revirt_tool.specs.declared.ending.File.TheVariants as files
-use Rattle.revirt_tool.specs.Closing.{Prints, PrintsOrFails, status_of, status_unprinted}
+use Rattle.revirt_tool.specs.Samples.{SamplesAs}
+use Rattle.revirt_tool.specs.Closing.{Prints, PrintsOrFails, Closes, status_of, status_unprinted}
 use Rattle.revirt_tool.specs.Promise.{KeepsRecording, is_fault}
 use Rattle.revirt_tool.specs.Complete.{HasImage, HoldsLog, HasLog, NothingFailed, IsRecorded, IsListed, RecordingsAreDone}
-use Rattle.revirt_tool.specs.Complete.{ListingsAreDone, KeptAreLogs}
+use Rattle.revirt_tool.specs.Complete.{ListingsAreDone, KeptAreLogs, IsSummedUp, SamplesAreDone}
 use Rattle.revirt_tool.specs.declared.ending.Ending.{Ending}
-use Rattle.revirt_tool.specs.declared.ending.Ending.TheVariants.{Usage, NotBuilt, TooLong, ImageRefused, Malformed, OtherImage, Disorderly, Diverged}
+use Rattle.revirt_tool.specs.declared.ending.Ending.TheVariants.{Usage, TooLong, ImageRefused, Malformed, OtherImage, Disorderly, Diverged}
 use Rattle.revirt_tool.specs.declared.ending.Ending.TheVariants.{NoMemory, ShelfFault, Kept, Listed}
 use Rattle.revirt_tool.proofs.ListingRoom.{listed_alike}
 
@@ -37,14 +38,14 @@ abbrev ok_or : {X : Type 0} → X → Result X Bad → X
 ok_or other (Ok x) = x
 ok_or other (Err bad) = other
 
-same_ok : {X : Type 0} (x y : X) → ◌≡◌ {A = Result X Bad} (Ok x) (Ok y) → x ≡ y
+pub same_ok : {X : Type 0} (x y : X) → ◌≡◌ {A = Result X Bad} (Ok x) (Ok y) → x ≡ y
 same_ok x y e = ap (ok_or x) e
 
-ok_isnt_err : {X : Type 0} (x : X) (bad : Bad) → ◌≡◌ {A = Result X Bad} (Ok x) (Err bad) → ⊥
+pub ok_isnt_err : {X : Type 0} (x : X) (bad : Bad) → ◌≡◌ {A = Result X Bad} (Ok x) (Err bad) → ⊥
 ok_isnt_err x bad e = true≢false (ap is_ok e)
 
 -- of two logs that say the same, but for the room of their waits, one isn't orderly where the other breaks a rule
-not_judged : (one other : Log) (rule hart entry : ℕ) → log_without_room one ≡ log_without_room other → IsOrderly one
+pub not_judged : (one other : Log) (rule hart entry : ℕ) → log_without_room one ≡ log_without_room other → IsOrderly one
     → IsLeastBreak other rule hart entry → ⊥
 not_judged one other rule hart entry same orderly breaks =
     reports_are_one.none one rule hart entry orderly (((order_sees_no_room one).breaks rule hart entry).0
@@ -67,7 +68,7 @@ same_task words P a wanted one other holds = subst P (same_Some a wanted (sym on
 -- words that ask for a task are in the grammar
 pub in_grammar : (words : List (List ℕ)) (wanted : Task) (place : ℕ) → task words ≡ Some wanted → job_of words ≡ Err place → ⊥
 in_grammar words wanted place is bad =
-    none-some wanted (sym (ap (λ (r : Result Job ℕ). elim r [ Ok j ↦ task_of words j | Err place ↦ None ]) bad) ∙ is)
+    none-some wanted (sym (ap (λ (r : Result Job ℕ). elim r [ Ok j ↦ Some (task_of words j) | Err place ↦ None ]) bad) ∙ is)
 
 -- a text that was printed, where the sink didn't fail
 pub prints : (text : List ℕ) (ok unprinted status : ℕ) (s t : SeenSink) → (Rose s.faults t.faults → ⊥) → PrintsOrFails text ok unprinted s t status
@@ -121,7 +122,6 @@ module _ (words : List (List ℕ)) (before after : Around) (status : ℕ) (image
 pub recordings_done : RecordingsAreDone
 recordings_done words before after status (Usage place, ends, closes) image quiet =
     absurd (in_grammar words (Records image.wanted) place image.is ends.0)
-recordings_done words before after status (NotBuilt, ends, closes) image quiet = absurd (none-some (Records image.wanted) (sym ends.1 ∙ image.is))
 recordings_done words before after status (TooLong files.Image, ends, closes) image quiet =
     absurd (long words before after status image quiet (recorded words before after status image quiet (TooLong files.Image) ends.0 ends.1 ends.2))
 recordings_done words before after status (TooLong files.Log, ends, closes) image quiet =
@@ -212,7 +212,6 @@ module _ (words : List (List ℕ)) (before after : Around) (status : ℕ) (log :
 
 pub listings_done : ListingsAreDone
 listings_done words before after status (Usage place, ends, closes) log quiet = absurd (in_grammar words (Lists log.name) place log.is ends.0)
-listings_done words before after status (NotBuilt, ends, closes) log quiet = absurd (none-some (Lists log.name) (sym ends.1 ∙ log.is))
 listings_done words before after status (TooLong files.Image, ends, closes) log quiet =
     absurd (listed words before after status log quiet (TooLong files.Image) ends.0 ends.1 ends.2)
 listings_done words before after status (TooLong files.Log, ends, closes) log quiet =
@@ -267,3 +266,22 @@ kept_log_held w text fault s t u o p name keeps limit tells held =
 pub kept_are_logs : KeptAreLogs
 kept_are_logs w text fault s t o p name u keeps limit tells held =
     (kept_log_held w text fault s t u o p name keeps limit tells held, refl, keeps.orderly)
+
+-- what was printed of a sample, and with which status
+sample_closes : (number : ℕ) (before after : Around) (status : ℕ) (ending : Ending) → SamplesAs number ending → Closes ending before.sink after.sink status
+    → IsSummedUp number before after status ⊎ ((status ≡ 3) ⊎ ((status ≡ 11) × Rose before.sink.faults after.sink.faults))
+sample_closes number before after status NoMemory is (inl (inl line)) = inr (inl line.1)
+sample_closes number before after status NoMemory is (inl (inr failed)) = inr (inl failed.1)
+sample_closes number before after status NoMemory is (inr other) = absurd (true≢false (sym other.0))
+sample_closes number before after status (Kept text false) is (inl (inl line)) =
+    inl (record { status_is = line.1; text = text.items; sample = is.0; printed = line.0 })
+sample_closes number before after status (Kept text false) is (inl (inr failed)) = inr (inr (failed.1, failed.0.faults))
+sample_closes number before after status (Kept text false) is (inr other) = absurd (true≢false (sym other.0))
+sample_closes number before after status (Kept text true) is closes = absurd (true≢false is.1)
+sample_closes number before after status ending is closes = absurd is
+
+pub samples_done : SamplesAreDone
+samples_done words number before after status (Usage place, ends, closes) is = absurd (in_grammar words (Samples number) place is ends.0)
+samples_done words number before after status (ending, ends, closes) is =
+    sample_closes number before after status ending
+    (same_task words (λ b. TaskAs b before.shelf after.shelf before.sources after.sources ending) ends.0 (Samples number) ends.1 is ends.2).0 closes

@@ -10,3 +10,4 @@ pub mod ReplaysDone
 pub mod Told
 pub mod TraceSteps
 pub mod SameRuns
+pub mod Samples

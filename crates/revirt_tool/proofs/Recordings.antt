@@ -46,13 +46,13 @@ use Rattle.revirt_tool.specs.Tasks.{Wish}
 use Rattle.revirt_tool.specs.Files.{IsFetched, IsUntouched}
 use Rattle.revirt_tool.specs.Recordings.{Answered, EndsBy, Comes, begun}
 use Rattle.revirt_tool.specs.Promise.{HasHead, HoldsNow, EndsFull, AllEndThere, KeepsRecording, replay_at_start, is_fault}
-use Rattle.revirt_tool.specs.Replays.{IsReportable}
+use Rattle.revirt_tool.specs.Replays.{EndsAt, IsReportable}
 use Rattle.revirt_tool.specs.Serving.{KeepsAs, RecordsAs, FailsToKeep, ImageAs}
 use Rattle.revirt_tool.proofs.Ended.{stream_ended, agrees_so}
 use Rattle.revirt_tool.proofs.Replayed.{at_end, reportable}
 use Rattle.revirt_tool.specs.declared.ending.File.TheVariants as files
 use Rattle.revirt_tool.specs.declared.ending.Ending.{Ending}
-use Rattle.revirt_tool.specs.declared.ending.Ending.TheVariants.{Usage, NotBuilt, TooLong, ImageRefused, Malformed, OtherImage, Disorderly, Diverged}
+use Rattle.revirt_tool.specs.declared.ending.Ending.TheVariants.{Usage, TooLong, ImageRefused, Malformed, OtherImage, Disorderly, Diverged}
 use Rattle.revirt_tool.specs.declared.ending.Ending.TheVariants.{NoMemory, ShelfFault, Kept, Listed}
 
 -- full orders of a replayable log agree, from the start of a board with as many harts as it has streams
@@ -87,7 +87,7 @@ module _ (w : Wish) (image : Image) (o p : World) (log : Log) (ended : Final) (j
   number : length log.streams ≡ w.harts
   number = right.right.harts_are ∙ length-map-range_with_len (λ id. hart_at_start id w.harts image.pages image.entry) 0 w.harts
 
-  replayable : IsReplayable log image
+  pub replayable : IsReplayable log image
   replayable = record { orderly = right.right.orderly; whole = is.limits.whole; pages = ap (λ (l : Log). l.pages) right.right.terms_are }
 
   full : EndsFull log image w.harts (order_of journal) end
@@ -108,6 +108,10 @@ module _ (w : Wish) (image : Image) (o p : World) (log : Log) (ended : Final) (j
 
   pub has_report : IsReportable ended
   has_report = subst IsReportable (sym is.ended_is) (reportable log image replayable is.at done)
+
+  -- its replay is done at its end
+  pub ends_recorded : EndsAt log image ended
+  ends_recorded = record { orderly = right.right.orderly; state = is.at; done = done; end_is = is.ended_is }
 
   pub can_be_written : in_range log ≡ true
   can_be_written = right.range
@@ -144,7 +148,7 @@ module _ (w : Wish) (image : Image) (o p : World) (log : Log) (ended : Final) (j
         cut = rounds_are_not_cut (begun w image o) p log ended journal turns is;
       }
 
-  comes : Comes w image o p log ended journal turns
+  pub comes : Comes w image o p log ended journal turns
   comes = record { run = is; answered = answered; ends = ends; range = right.range; size = right.size }
 
   -- the same, told of the state to which the journal leads
@@ -278,7 +282,6 @@ records w s m t o p image log ended journal turns (Kept text fault) read tells i
     (subst (λ i. RecordsInRounds (begun w i o) p log ended journal turns) file.3 is)
     (holds_since w (spelling log) (ended.memory ++ ended.sent) s m t read.0 tells kept.0) kept.1 kept.2 kept.3 kept.4
 records w s m t o p image log ended journal turns (Usage place) read tells is kept = absurd kept
-records w s m t o p image log ended journal turns NotBuilt read tells is kept = absurd kept
 records w s m t o p image log ended journal turns (TooLong file) read tells is kept = absurd kept
 records w s m t o p image log ended journal turns (ImageRefused rule) read tells is kept = absurd kept
 records w s m t o p image log ended journal turns (Malformed offset rule) read tells is kept = absurd kept
@@ -295,7 +298,6 @@ refuses w s t o (ImageRefused rule) read = (read.0, (read.1, refl))
 refuses w s t o NoMemory read = (read, inl refl)
 refuses w s t o ShelfFault read = inl (read, refl)
 refuses w s t o (Usage place) read = absurd read
-refuses w s t o NotBuilt read = absurd read
 refuses w s t o (Malformed offset rule) read = absurd read
 refuses w s t o (OtherImage named has) read = absurd read
 refuses w s t o (Disorderly rule hart entry) read = absurd read

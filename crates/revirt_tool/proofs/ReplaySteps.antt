@@ -13,7 +13,7 @@ use Rattle.revirt_tool.specs.Replays.{IsImageOf, StartAs, OutcomeAs, KeepsReplay
 use Rattle.revirt_tool.specs.declared.ending.File.{File}
 use Rattle.revirt_tool.specs.declared.ending.File.TheVariants as files
 use Rattle.revirt_tool.specs.declared.ending.Ending.{Ending}
-use Rattle.revirt_tool.specs.declared.ending.Ending.TheVariants.{Usage, NotBuilt, TooLong, ImageRefused, Malformed, OtherImage, Disorderly, Diverged}
+use Rattle.revirt_tool.specs.declared.ending.Ending.TheVariants.{Usage, TooLong, ImageRefused, Malformed, OtherImage, Disorderly, Diverged}
 use Rattle.revirt_tool.specs.declared.ending.Ending.TheVariants.{NoMemory, ShelfFault, Kept, Listed}
 use Rattle.revirt_tool.proofs.Recordings.{untouched}
 
@@ -25,7 +25,6 @@ log_fails w s t (Malformed offset rule) read = read
 log_fails w s t NoMemory read = read
 log_fails w s t ShelfFault read = inl read
 log_fails w s t (Usage place) read = absurd read
-log_fails w s t NotBuilt read = absurd read
 log_fails w s t (ImageRefused rule) read = absurd read
 log_fails w s t (OtherImage named has) read = absurd read
 log_fails w s t (Disorderly rule hart entry) read = absurd read
@@ -107,7 +106,6 @@ module _ (w : ReplayWish) (s m t : SeenShelf) (log : Log) (read : LogAs w.log s 
   })
   start_fails (TooLong files.Log) start = absurd start
   start_fails (Usage place) start = absurd start
-  start_fails NotBuilt start = absurd start
   start_fails (Malformed offset rule) start = absurd start
   start_fails (Disorderly rule hart entry) start = absurd start
   start_fails (Diverged hart count rule) start = absurd start
@@ -126,7 +124,6 @@ module _ (w : ReplayWish) (s m t : SeenShelf) (log : Log) (read : LogAs w.log s 
   )
   outcome_fails image NoMemory start ends = untouched s m t read.0 tells start.0
   outcome_fails image (Usage place) start ends = absurd ends
-  outcome_fails image NotBuilt start ends = absurd ends
   outcome_fails image (TooLong file) start ends = absurd ends
   outcome_fails image (ImageRefused rule) start ends = absurd ends
   outcome_fails image (Malformed offset rule) start ends = absurd ends
@@ -178,7 +175,6 @@ module _ (w : ReplayWish) (s m n t : SeenShelf) (log : Log) (image : Image) (end
     },
   )
   keeps (Usage place) kept = absurd kept
-  keeps NotBuilt kept = absurd kept
   keeps (TooLong file) kept = absurd kept
   keeps (ImageRefused rule) kept = absurd kept
   keeps (Malformed offset rule) kept = absurd kept

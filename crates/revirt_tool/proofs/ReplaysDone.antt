@@ -40,7 +40,7 @@ use Rattle.revirt_tool.specs.Complete.{HoldsReplay, NothingFailed, image_held, e
 use Rattle.revirt_tool.specs.Complete.{IsReplayed, IsTraced, ReplaysAreDone, TracesAreDone, KeptAreReplayed}
 use Rattle.revirt_tool.specs.declared.ending.File.TheVariants as files
 use Rattle.revirt_tool.specs.declared.ending.Ending.{Ending}
-use Rattle.revirt_tool.specs.declared.ending.Ending.TheVariants.{Usage, NotBuilt, TooLong, ImageRefused, Malformed, OtherImage, Disorderly}
+use Rattle.revirt_tool.specs.declared.ending.Ending.TheVariants.{Usage, TooLong, ImageRefused, Malformed, OtherImage, Disorderly}
 use Rattle.revirt_tool.specs.declared.ending.Ending.TheVariants.{Diverged as DivergedSo, NoMemory, ShelfFault, Kept, Listed}
 use Rattle.revirt_tool.proofs.Replayed.{is_done, state_of}
 use Rattle.revirt_tool.proofs.Completeness.{past, same_task, in_grammar, prints, printed, log_not_long, well_formed, reads_alike, not_disorderly, kept_log_held}
@@ -65,7 +65,7 @@ module _ (log : Log) (image : Image) (o : Outcome FlatState) where
       (subst (λ f. IsOutcome (board (unit_of log)) (log_without_room log) f o) first_is is)
 
 -- and so does a log that says the same
-alike_to : (one other : Log) (image : Image) (o : Outcome FlatState) → log_without_room one ≡ log_without_room other → ComesTo other image o
+pub alike_to : (one other : Log) (image : Image) (o : Outcome FlatState) → log_without_room one ≡ log_without_room other → ComesTo other image o
     → ComesTo one image o
 alike_to one other image o same is = roomy one image o (subst (λ l. ComesTo l image o) (sym same) (bare other image o is))
 
@@ -178,14 +178,12 @@ module _ (w : ReplayWish) (s t : SeenShelf) (has : HoldsReplay w s) (tells : IsT
   replay_may NoMemory ends quiet = refl
   replay_may (Kept text fault) ends quiet = refl
   replay_may (Usage place) ends quiet = absurd ends
-  replay_may NotBuilt ends quiet = absurd ends
   replay_may (Listed listing orderly) ends quiet = absurd ends
 
 -- how words that ask for a task end, where the task can't end as words do that ask for none
 task_ends : (words : List (List ℕ)) (wanted : Task) (s t : SeenShelf) (o p : World) (ending : Ending) → task words ≡ Some wanted
     → EndsAs words s t o p ending → TaskAs wanted s t o p ending
 task_ends words wanted s t o p (Usage place) is ends = absurd (in_grammar words wanted place is ends.0)
-task_ends words wanted s t o p NotBuilt is ends = absurd (none-some wanted (sym ends.1 ∙ is))
 task_ends words wanted s t o p ending is ends = same_task words (λ b. TaskAs b s t o p ending) ends.0 wanted ends.1 is ends.2
 
 module _ (before after : Around) (status : ℕ) (tells : IsTrue after.shelf.tells) (quiet : NothingFailed before after) where

@@ -1,33 +1,26 @@
 -- What the words ask for.
 use Rattle.std.proofs.Common.{◌≡◌, ◌≢◌, ℕ, Bool, List, Option, Some, None, option_map, IfSome, inl, inr, refl, sym, ap, ◌∙◌}
 use Rattle.std.proofs.Common.{subst}
-use Rattle.std.specs.Prelude.{IsOk}
 use Rattle.std.proofs.lemmas.Option.{none-some, same_Some}
 use Rattle.command_words.specs.declared.job.Job.{Job}
 use Rattle.command_words.specs.declared.job.Job.TheVariants.{Record}
 use Rattle.command_words.specs.Texts.{word_at}
 use Rattle.command_words.specs.Allowed.{KeepsApart}
-use Rattle.command_words.specs.Grammar.{job_of}
 use Rattle.outside.specs.Seen.{SeenShelf}
 use Rattle.crew_parts.specs.Boards.{World}
-use Rattle.revirt_tool.specs.Tasks.{Wish, ReplayWish, TraceWish, Records, Replays, Traces, Lists, task, IsFetchedBy, Fetches}
+use Rattle.revirt_tool.specs.Tasks.{Wish, ReplayWish, TraceWish, Records, Replays, Traces, Lists, Samples, task, IsFetchedBy, Fetches}
 use Rattle.revirt_tool.specs.Listings.{InspectsAs}
 use Rattle.revirt_tool.specs.Replays.{ReplaysAs}
 use Rattle.revirt_tool.specs.Traces.{TracesAs}
+use Rattle.revirt_tool.specs.Samples.{SamplesAs}
 use Rattle.revirt_tool.specs.Serving.{RecordsAs, EndsAs}
 use Rattle.revirt_tool.specs.declared.ending.Ending.{Ending}
-use Rattle.revirt_tool.specs.declared.ending.Ending.TheVariants.{Usage, NotBuilt, TooLong, ImageRefused, Malformed, OtherImage, Disorderly, Diverged}
+use Rattle.revirt_tool.specs.declared.ending.Ending.TheVariants.{Usage, TooLong, ImageRefused, Malformed, OtherImage, Disorderly, Diverged}
 use Rattle.revirt_tool.specs.declared.ending.Ending.TheVariants.{NoMemory, ShelfFault, Kept, Listed}
 
 -- the words ask for a recording and have its image fetched
 pub fetches : (words : List (List ℕ)) (w : Wish) → task words ≡ Some (Records w) → Fetches words w.image
 fetches words w is = subst (λ a. IsFetchedBy a w.image) (sym is) refl
-
--- words in the grammar that ask for no task end in a command that isn't built
-pub not_built : (words : List (List ℕ)) (s : SeenShelf) (o p : World) (ending : Ending) → IsOk (job_of words) → task words ≡ None
-    → ending ≡ NotBuilt → p ≡ o → EndsAs words s s o p ending
-not_built words s o p ending read none is same =
-    subst (λ e. EndsAs words s s o p e) (sym is) (read, none, (record { held = λ told n. refl; faults = refl }, same))
 
 -- a replay has both files fetched
 pub fetches_log : (words : List (List ℕ)) (w : ReplayWish) → task words ≡ Some (Replays w) → Fetches words w.log
@@ -60,7 +53,6 @@ dump_is_other now o words job image log harts pages limit log_limit dump rounds 
 pub ends_as : (words : List (List ℕ)) (w : Wish) (s t : SeenShelf) (o p : World) (ending : Ending) → task words ≡ Some (Records w)
     → RecordsAs w s t o p ending → EndsAs words s t o p ending
 ends_as words w s t o p (Usage place) is records = absurd records
-ends_as words w s t o p NotBuilt is records = absurd records
 ends_as words w s t o p (TooLong file) is records = (Records w, is, records)
 ends_as words w s t o p (ImageRefused rule) is records = (Records w, is, records)
 ends_as words w s t o p (Malformed offset rule) is records = absurd records
@@ -76,7 +68,6 @@ ends_as words w s t o p (Listed listing orderly) is records = absurd records
 pub lists_as : (words : List (List ℕ)) (name : List ℕ) (s t : SeenShelf) (o p : World) (ending : Ending) → task words ≡ Some (Lists name)
     → InspectsAs name s t ending → p ≡ o → EndsAs words s t o p ending
 lists_as words name s t o p (Usage place) is lists same = absurd lists
-lists_as words name s t o p NotBuilt is lists same = absurd lists
 lists_as words name s t o p (TooLong file) is lists same = (Lists name, is, (lists, same))
 lists_as words name s t o p (ImageRefused rule) is lists same = absurd lists
 lists_as words name s t o p (Malformed offset rule) is lists same = (Lists name, is, (lists, same))
@@ -92,7 +83,6 @@ lists_as words name s t o p (Listed listing orderly) is lists same = (Lists name
 pub replays_as : (words : List (List ℕ)) (w : ReplayWish) (s t : SeenShelf) (o p : World) (ending : Ending) → task words ≡ Some (Replays w)
     → ReplaysAs w s t ending → p ≡ o → EndsAs words s t o p ending
 replays_as words w s t o p (Usage place) is ends same = absurd ends
-replays_as words w s t o p NotBuilt is ends same = absurd ends
 replays_as words w s t o p (TooLong file) is ends same = (Replays w, is, (ends, same))
 replays_as words w s t o p (ImageRefused rule) is ends same = (Replays w, is, (ends, same))
 replays_as words w s t o p (Malformed offset rule) is ends same = (Replays w, is, (ends, same))
@@ -108,5 +98,10 @@ replays_as words w s t o p (Listed listing orderly) is ends same = absurd ends
 pub traces_as : (words : List (List ℕ)) (w : TraceWish) (s t : SeenShelf) (o p : World) (ending : Ending) → task words ≡ Some (Traces w)
     → TracesAs w s t ending → p ≡ o → EndsAs words s t o p ending
 traces_as words w s t o p (Usage place) is ends same = absurd ends
-traces_as words w s t o p NotBuilt is ends same = absurd ends
 traces_as words w s t o p ending is ends same = (Traces w, is, (ends, same))
+
+-- and so of a sample, which keeps nothing
+pub samples_as : (words : List (List ℕ)) (number : ℕ) (s : SeenShelf) (o p : World) (ending : Ending) → task words ≡ Some (Samples number)
+    → SamplesAs number ending → p ≡ o → EndsAs words s s o p ending
+samples_as words number s o p (Usage place) is ends same = absurd ends
+samples_as words number s o p ending is ends same = (Samples number, is, (ends, (record { held = λ told n. refl; faults = refl }, same)))

@@ -4,12 +4,11 @@ use Rattle.outside.specs.Causes.{Rose}
 use Rattle.outside.specs.Seen.{SeenSink, Writes, WritesPart}
 use Rattle.revirt_tool.specs.Lines.{usage_line, too_long_line, image_line, malformed_line, other_line, disorderly_line, diverged_line, no_memory_line}
 use Rattle.revirt_tool.specs.declared.ending.Ending.{Ending}
-use Rattle.revirt_tool.specs.declared.ending.Ending.TheVariants.{Usage, NotBuilt, TooLong, ImageRefused, Malformed, OtherImage, Disorderly, Diverged}
+use Rattle.revirt_tool.specs.declared.ending.Ending.TheVariants.{Usage, TooLong, ImageRefused, Malformed, OtherImage, Disorderly, Diverged}
 use Rattle.revirt_tool.specs.declared.ending.Ending.TheVariants.{NoMemory, ShelfFault, Kept, Listed}
 
 abbrev pub text_of : Ending → List ℕ
 text_of (Usage place) = usage_line place
-text_of NotBuilt = codes "not built\n"
 text_of (TooLong file) = too_long_line file
 text_of (ImageRefused rule) = image_line rule
 text_of (Malformed offset rule) = malformed_line offset rule
@@ -24,7 +23,6 @@ text_of (Listed listing orderly) = listing.items
 -- the status, where the text was printed
 abbrev pub status_of : Ending → ℕ
 status_of (Usage place) = 1
-status_of NotBuilt = 12
 status_of (TooLong file) = 9
 status_of (ImageRefused rule) = 2
 status_of (Malformed offset rule) = 6

@@ -21,10 +21,11 @@ use Rattle.replay_core.specs.Stories.{IsStoryOf}
 use Rattle.report_view.specs.Report.{report}
 use Rattle.report_view.specs.Trace.{trace}
 use Rattle.crew_parts.specs.Boards.{World}
-use Rattle.revirt_tool.specs.Tasks.{Wish, ReplayWish, TraceWish, Records, Replays, Traces, Lists, task}
+use Rattle.revirt_tool.specs.Tasks.{Wish, ReplayWish, TraceWish, Records, Replays, Traces, Lists, Samples, task}
 use Rattle.revirt_tool.specs.Files.{longest, IsUntouched}
 use Rattle.revirt_tool.specs.declared.ending.File.TheVariants as files
 use Rattle.revirt_tool.specs.Listings.{IsListing}
+use Rattle.revirt_tool.specs.Samples.{IsSample}
 use Rattle.revirt_tool.specs.Closing.{Prints}
 use Rattle.revirt_tool.specs.Promise.{KeepsRecording}
 use Rattle.revirt_tool.specs.Replays.{HoldsDump}
@@ -159,6 +160,20 @@ TracesAreDone =
     (words : List (List ℕ)) (before after : Around) (status : ℕ)
     → Serves words before after status → (has : HasTrace words before.shelf) → IsTrue after.shelf.tells → NothingFailed before after
     → IsTraced has.wanted has.there.holds.log (image_held has.wanted.files before.shelf has.there) before after status ⊎ (status ≡ 3)
+
+-- a sample was told: its summary is what was printed, and nothing was kept
+pub record IsSummedUp (number : ℕ) (before after : Around) (status : ℕ) : Type 0 where
+  pub status_is : status ≡ 0
+  pub text : List ℕ
+  pub sample : IsSample number text
+  pub printed : Prints text before.sink after.sink
+
+-- of words that ask for a sample: it is told, or memory ran out, or the sink failed, with status 11 or where memory ran out
+abbrev pub SamplesAreDone : Type 0
+SamplesAreDone =
+    (words : List (List ℕ)) (number : ℕ) (before after : Around) (status : ℕ)
+    → Serves words before after status → task words ≡ Some (Samples number)
+    → IsSummedUp number before after status ⊎ ((status ≡ 3) ⊎ ((status ≡ 11) × Rose before.sink.faults after.sink.faults))
 
 -- any shelf that tells and holds the log that a recording kept, and the image that it was given, is such a shelf, for words that ask for
 -- the replay or a trace of them; log and image are the recording's, and the replay's end is the recording's, so its dump is the recording's, and its report the one that was printed

@@ -6,6 +6,7 @@ pub mod Replays
 pub mod Traces
 pub mod Closing
 pub mod Recordings
+pub mod Samples
 pub mod Promise
 pub mod Serving
 pub mod Complete

@@ -1,5 +1,5 @@
 -- What a call does with the words, and with which status it answers (docs/command-line.md).
-use Rattle.std.specs.Prelude.{ℕ, ◌≡◌, ◌≢◌, ◌⊎◌, ◌++◌, IfSome, List, length, Some, None, IsTrue, IsOk, Err, Result, Ok}
+use Rattle.std.specs.Prelude.{ℕ, ◌≡◌, ◌≢◌, ◌⊎◌, ◌++◌, IfSome, List, length, Some, None, IsTrue, Err, Result, Ok}
 use Rattle.outside.specs.Causes.{Rose}
 use Rattle.outside.specs.Seen.{SeenShelf, SeenConsole, SeenClock, SeenSink, Holds}
 use Rattle.elf_image.specs.Image.{Image}
@@ -16,16 +16,17 @@ use Rattle.report_view.specs.Report.{report}
 use Rattle.crew_parts.specs.Boards.{World, world}
 use Rattle.recorder.specs.Manned.{HasGiven}
 use Rattle.revirt_tool.specs.Closing.{Closes}
-use Rattle.revirt_tool.specs.Tasks.{Wish, Task, Records, Replays, Traces, Lists, task}
+use Rattle.revirt_tool.specs.Tasks.{Wish, Task, Records, Replays, Traces, Lists, Samples, task}
 use Rattle.revirt_tool.specs.Files.{IsFetched, IsUntouched, FailsToFetch, IsTooLong}
 use Rattle.revirt_tool.specs.Listings.{InspectsAs}
 use Rattle.revirt_tool.specs.Replays.{ReplaysAs}
 use Rattle.revirt_tool.specs.Traces.{TracesAs}
+use Rattle.revirt_tool.specs.Samples.{SamplesAs}
 use Rattle.revirt_tool.specs.Recordings.{Comes}
 use Rattle.revirt_tool.specs.Promise.{HoldsNow, KeepsRecording, is_fault}
 use Rattle.revirt_tool.specs.declared.ending.File.TheVariants as files
 use Rattle.revirt_tool.specs.declared.ending.Ending.{Ending}
-use Rattle.revirt_tool.specs.declared.ending.Ending.TheVariants.{Usage, NotBuilt, TooLong, ImageRefused, NoMemory, ShelfFault, Kept}
+use Rattle.revirt_tool.specs.declared.ending.Ending.TheVariants.{Usage, TooLong, ImageRefused, NoMemory, ShelfFault, Kept}
 
 -- a recording whose image was fetched and breaks a rule
 pub record IsRefused (w : Wish) (s : SeenShelf) (rule : ℕ) : Type 0 where
@@ -93,17 +94,17 @@ RecordsAs w s t o p ShelfFault = (FailsToFetch s t × (p ≡ o)) ⊎ IsUnkept w 
 RecordsAs w s t o p (Kept report fault) = KeepsRecording w report.items fault s t o p
 RecordsAs w s t o p ending = ⊥
 
--- how what the words ask for ends; replays, traces and listings ask neither console nor clock
+-- how what the words ask for ends; replays, traces and listings ask neither console nor clock, and a sample asks those of its own
 abbrev pub TaskAs : Task → SeenShelf → SeenShelf → World → World → Ending → Type 0
 TaskAs (Records w) s t o p ending = RecordsAs w s t o p ending
 TaskAs (Replays w) s t o p ending = ReplaysAs w s t ending × (p ≡ o)
 TaskAs (Traces w) s t o p ending = TracesAs w s t ending × (p ≡ o)
 TaskAs (Lists name) s t o p ending = InspectsAs name s t ending × (p ≡ o)
+TaskAs (Samples number) s t o p ending = SamplesAs number ending × IsRefusal s t o p
 
--- how the words end: outside the grammar, in a command that isn't built, or in what they ask for
+-- how the words end: outside the grammar, or in what they ask for
 abbrev pub EndsAs : List (List ℕ) → SeenShelf → SeenShelf → World → World → Ending → Type 0
 EndsAs words s t o p (Usage place) = (job_of words ≡ Err place) × IsRefusal s t o p
-EndsAs words s t o p NotBuilt = IsOk (job_of words) × (task words ≡ None) × IsRefusal s t o p
 EndsAs words s t o p ending = (a : Task) × (task words ≡ Some a) × TaskAs a s t o p ending
 
 -- what is seen around a call: of the shelf, of console and clock, and of the sink of the report

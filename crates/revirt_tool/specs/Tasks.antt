@@ -1,13 +1,11 @@
--- What the words ask for, of what the program serves (docs/command-line.md).
-use Rattle.std.specs.Prelude.{ℕ, ◌≡◌, ◌≢◌, ◌≤◌, ◌⊎◌, Bool, true, false, if◌then◌else◌, List, Option, Some, None, option_map, IfSome, Ok, Err}
+-- What the words ask for (docs/command-line.md).
+use Rattle.std.specs.Prelude.{ℕ, ◌≡◌, ◌≢◌, ◌≤◌, ◌⊎◌, List, Option, Some, None, option_map, IfSome, Ok, Err}
 use Rattle.rv_words.specs.Limits.{most_pages}
 use Rattle.rv_words.specs.declared.shared.TheConstants.{MAX_HARTS}
 use Rattle.command_words.specs.Texts.{word_at}
 use Rattle.command_words.specs.Grammar.{job_of}
 use Rattle.command_words.specs.declared.job.Job.{Job}
-use Rattle.command_words.specs.declared.job.Job.TheVariants.{Record, Replay, Inspect, Trace}
-use Rattle.command_words.specs.declared.job.Way.{Way}
-use Rattle.command_words.specs.declared.job.Way.TheVariants.{Rounds}
+use Rattle.command_words.specs.declared.job.Job.TheVariants.{Record, Replay, Inspect, Trace, Sample}
 use Rattle.revirt_tool.specs.declared.recording.Request.{Request}
 use Rattle.revirt_tool.specs.declared.replaying.ReplayRequest.{ReplayRequest}
 use Rattle.revirt_tool.specs.declared.tracing.TraceRequest.{TraceRequest}
@@ -42,6 +40,10 @@ pub record ReplayWish : Type 0 where
   pub log : List ℕ
   pub dump : Option (List ℕ)
 
+-- a replay by the places of its names; the way makes no difference to what it comes to
+abbrev pub replayed : List (List ℕ) → ℕ → ℕ → Option ℕ → ReplayWish
+replayed words image log dump = record { image = word_at words image; log = word_at words log; dump = option_map (word_at words) dump }
+
 -- a replay by its names
 abbrev pub replay_by : ReplayRequest → ReplayWish
 replay_by r = record { image = r.image.now; log = r.log.now; dump = option_map (λ d. d.now) r.dump }
@@ -60,20 +62,17 @@ traced image log hart from to = record { files = record { image = image; log = l
 abbrev pub trace_by : TraceRequest → TraceWish
 trace_by r = traced r.image.now r.log.now r.hart r.from r.to
 
--- a recording, a replay, a trace, or the listing of the log of this name
+-- a recording, a replay, a trace, the listing of the log of this name, or the sample of this number
 pub data Task : Type 0 where
   Records : Wish → Task
   Replays : ReplayWish → Task
   Traces : TraceWish → Task
   Lists : List ℕ → Task
+  Samples : ℕ → Task
 
-abbrev pub in_rounds : Way → Bool
-in_rounds Rounds = true
-in_rounds way = false
-
-abbrev pub task_of : List (List ℕ) → Job → Option Task
+abbrev pub task_of : List (List ℕ) → Job → Task
 task_of words (Record image log harts pages limit log_limit dump rounds) =
-    Some (Records (record {
+    Records (record {
       image = word_at words image;
       log = word_at words log;
       dump = option_map (word_at words) dump;
@@ -81,25 +80,23 @@ task_of words (Record image log harts pages limit log_limit dump rounds) =
       pages = pages;
       limit = limit;
       log_limit = log_limit;
-    }))
-task_of words (Replay image log dump way) =
-    if in_rounds way then None
-    else Some (Replays (record { image = word_at words image; log = word_at words log; dump = option_map (word_at words) dump }))
-task_of words (Trace image log hart from to) = Some (Traces (traced (word_at words image) (word_at words log) hart from to))
-task_of words (Inspect log) = Some (Lists (word_at words log))
-task_of words job = None
+    })
+task_of words (Replay image log dump way) = Replays (replayed words image log dump)
+task_of words (Trace image log hart from to) = Traces (traced (word_at words image) (word_at words log) hart from to)
+task_of words (Inspect log) = Lists (word_at words log)
+task_of words (Sample number) = Samples number
 
--- none where the words aren't in the grammar, or ask for what isn't served
+-- none where the words aren't in the grammar
 abbrev pub task : List (List ℕ) → Option Task
-task words = elim (job_of words) [ Ok job ↦ task_of words job | Err place ↦ None ]
+task words = elim (job_of words) [ Ok job ↦ Some (task_of words job) | Err place ↦ None ]
 
 -- the task by its names
-abbrev pub task_by : Command → Option Task
-task_by (commands.Record r) = Some (Records (wish_by r))
-task_by (commands.Replay r) = Some (Replays (replay_by r))
-task_by (commands.Trace r) = Some (Traces (trace_by r))
-task_by (commands.Inspect log) = Some (Lists log.now)
-task_by commands.Unbuilt = None
+abbrev pub task_by : Command → Task
+task_by (commands.Record r) = Records (wish_by r)
+task_by (commands.Replay r) = Replays (replay_by r)
+task_by (commands.Trace r) = Traces (trace_by r)
+task_by (commands.Inspect log) = Lists log.now
+task_by (commands.Sample number) = Samples number
 
 -- numbers in their ranges, and a dump of another name than the log's
 pub record IsAllowedRecording (r : Request) : Type 0 where
@@ -122,6 +119,7 @@ IsFetchedBy (Some (Records w)) name = name ≡ w.image
 IsFetchedBy (Some (Replays r)) name = (name ≡ r.log) ⊎ (name ≡ r.image)
 IsFetchedBy (Some (Traces w)) name = (name ≡ w.files.log) ⊎ (name ≡ w.files.image)
 IsFetchedBy (Some (Lists log)) name = name ≡ log
+IsFetchedBy (Some (Samples number)) name = ⊥
 IsFetchedBy None name = ⊥
 
 -- the words have the file of this name fetched

@@ -1,11 +1,10 @@
 //! What the words ask for, by the names in them.
 
-ghost use Rattle.std.specs.Prelude.{◌≡◌, ◌<◌, length, IfSome, IfOk, IfErr, IsOk, Err, option_map};
+ghost use Rattle.std.specs.Prelude.{◌≡◌, ◌<◌, length, Some, IfSome, IfOk, IfErr, Err, option_map};
 ghost use Rattle.command_words.specs.Texts.{texts, word_at};
 ghost use Rattle.command_words.specs.Grammar.{job_of};
 ghost use Rattle.command_words.specs.Allowed.{ArePlaces, IsInRange, KeepsApart};
-ghost use Rattle.command_words.specs.declared.job.Job.TheVariants.{Replay};
-ghost use Rattle.revirt_tool.specs.Tasks.{task, task_of, task_by, trace_by, traced, IsAllowed};
+ghost use Rattle.revirt_tool.specs.Tasks.{task, task_of, task_by, replay_by, replayed, trace_by, traced, IsAllowed};
 
 use crate::recording::Request;
 use crate::replaying::ReplayRequest;
@@ -20,8 +19,8 @@ pub(crate) enum Command<'a> {
     Trace(TraceRequest<'a>),
     /// The listing of the log of this name.
     Inspect(&'a str),
-    /// What isn't built.
-    Unbuilt,
+    /// The sample of this number.
+    Sample(u32),
 }
 
 /// The word at a place.
@@ -43,22 +42,25 @@ fn word_where(words: &[String], place: Option<u64>) -> Option<&str>
     }
 }
 
-/// A replay's files.
-fn replay_by_name(words: &[String], image: u64, log: u64, dump: Option<u64>, way: Way) -> Command
+/// A replay's files and way.
+fn replay_by_name(
+    words: &[String],
+    image: u64,
+    log: u64,
+    dump: Option<u64>,
+    way: Way,
+) -> ReplayRequest
     requires image { image < length words.now }
     requires log { log < length words.now }
     requires dump { IfSome dump (λ place. place < length words.now) }
-    ensures task { task_by result ≡ task_of (texts words.now) (Replay image log dump way) }
-    ensures allowed { IsAllowed result }
+    ensures { replay_by result ≡ replayed (texts words.now) image log dump }
 {
-    if way == Way::Rounds {
-        return Command::Unbuilt;
-    }
-    Command::Replay(ReplayRequest {
+    ReplayRequest {
         image: word(words, image),
         log: word(words, log),
         dump: word_where(words, dump),
-    })
+        way,
+    }
 }
 
 /// A trace's files and moves.
@@ -115,7 +117,7 @@ fn by_name(words: &[String], job: Job) -> Command
             log,
             dump,
             way,
-        } => replay_by_name(words, image, log, dump, way),
+        } => Command::Replay(replay_by_name(words, image, log, dump, way)),
         Job::Trace {
             image,
             log,
@@ -124,14 +126,13 @@ fn by_name(words: &[String], job: Job) -> Command
             to,
         } => Command::Trace(trace_by_name(words, image, log, hart, from, to)),
         Job::Inspect { log } => Command::Inspect(word(words, log)),
-        Job::Sample { number: _ } => Command::Unbuilt,
+        Job::Sample { number } => Command::Sample(number),
     }
 }
 
 /// What the words ask for, where they are in the grammar.
 pub(crate) fn command_of(words: &[String]) -> Result<Command, Usage>
-    ensures grammar { IfOk result (λ w. IsOk (job_of (texts words.now))) }
-    ensures task { IfOk result (λ w. task (texts words.now) ≡ task_by w) }
+    ensures task { IfOk result (λ c. task (texts words.now) ≡ Some (task_by c)) }
     ensures allowed { IfOk result IsAllowed }
     ensures usage { IfErr result (λ u. job_of (texts words.now) ≡ Err u.place) }
 {

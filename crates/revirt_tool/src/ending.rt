@@ -19,7 +19,6 @@ pub enum File {
 pub enum Ending {
     /// The word at this place can't stand there, or is missing.
     Usage { place: u64 },
-    NotBuilt,
     /// This file is longer than it may be.
     TooLong { file: File },
     /// The least rule that the image breaks.
@@ -34,7 +33,8 @@ pub enum Ending {
     Diverged { hart: u8, count: u64, rule: u8 },
     NoMemory,
     ShelfFault,
-    /// The report of a run or of a replay, or the trace of one, and whether the console failed in the run.
+    /// The report of a run or of a replay, the trace of one, or the summary of a sample, and whether the console failed
+    /// in the run.
     Kept { report: Vec<u8>, fault: bool },
     /// The listing of a log, and whether the log is orderly.
     Listed { listing: Vec<u8>, orderly: bool },
@@ -122,7 +122,6 @@ pub(crate) fn close<R: Sink>(alloc: Global, ending: Ending, report: &mut R) -> u
         Ending::Usage { place } => {
             print_line(format!(in alloc; "usage: word {place}\n"), 1, report)
         }
-        Ending::NotBuilt => print(b"not built\n", 12, 12, report),
         Ending::TooLong { file } => print(too_long(file), 9, 9, report),
         Ending::ImageRefused { rule } => {
             print_line(format!(in alloc; "image refused: I{rule}\n"), 2, report)

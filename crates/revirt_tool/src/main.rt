@@ -1,4 +1,4 @@
-//! Records runs of a RISC-V board, and replays them, and lists what their logs say (docs/command-line.md).
+//! Records runs of a RISC-V board, and replays them, and tells what their logs say (docs/command-line.md).
 #![tactic(auto)]
 
 mod command;
@@ -14,11 +14,16 @@ mod recording;
 mod replay_tests;
 mod replaying;
 #[cfg(test)]
+mod sample_tests;
+mod sampling;
+#[cfg(test)]
 mod tests;
 mod top;
 #[cfg(test)]
 mod trace_tests;
 mod tracing;
+#[cfg(test)]
+mod way_tests;
 
 use outside::{FileShelf, OpenGate, RealClock, Sink, StdConsole, StdSink};
 use std::env;
@@ -26,7 +31,7 @@ use std::io::ErrorKind;
 use std::process::ExitCode;
 pub use top::{
     Finish, listings_are_done, recordings_are_done, recordings_are_one, replays_are_done, revirt,
-    revirt_still, traces_are_done,
+    revirt_still, samples_are_done, traces_are_done,
 };
 
 /// Prints a line before there are objects for the top call, and gives its status.

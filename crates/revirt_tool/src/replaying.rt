@@ -1,30 +1,35 @@
 //! The command that replays a log.
 
-ghost use Rattle.std.specs.Prelude.{◌≡◌, IsTrue, false};
+ghost use Rattle.std.specs.Prelude.{◌≡◌, IsTrue, IfOk, false};
 ghost use Rattle.elf_image.specs.Image.{IsWhole};
 ghost use Rattle.log_entry.specs.Range.{in_range};
 ghost use Rattle.outside.specs.Seen.{ToldBefore};
+ghost use Rattle.replay_core.specs.Ends.{IsOutcomeOf};
 ghost use Rattle.revirt_tool.specs.Tasks.{replay_by};
 ghost use Rattle.revirt_tool.specs.Replays.{StartAs, OrderAs, OutcomeAs, IsReportable, KeepsReplayAs, ReplaysAs};
 
 use crate::ending::{Ended, Ending, File, without_run};
 use crate::fetching::{file_for, log_for};
 use crate::recording::keep_dump;
+use command_words::Way;
 use elf_image::{Image, ImageError, read_image};
 use flat_machine::Final;
 use log_entry::Log;
 use log_order::{OrderError, Orderly, put_in_order};
-use outside::{Clock, Console, Shelf};
+use outside::{Clock, Console, Gate, NoMemory, Shelf};
 use replay_core::{Outcome, replay_one};
 use report_view::report_text;
+use round_run::replay_rounds;
 use std::alloc::Global;
+use std::thread::Threads;
 
-/// What a replay is asked for: its files.
+/// What a replay is asked for: its files, and the way.
 #[derive(Clone, Copy, Drop)]
 pub(crate) struct ReplayRequest<'a> {
     pub image: &'a str,
     pub log: &'a str,
     pub dump: Option<&'a str>,
+    pub way: Way,
 }
 
 /// The image that a log was recorded from.
@@ -74,8 +79,33 @@ pub(crate) fn in_order(alloc: Global, log: Log) -> Result<Orderly, Ending>
     }
 }
 
+/// What a replay comes to, on one thread or in rounds.
+fn played<T: Threads + Sync, G: Gate>(
+    rt: &T,
+    alloc: Global,
+    orderly: Orderly,
+    image: &Image,
+    way: Way,
+    gate: &G,
+) -> Result<Outcome, NoMemory>
+    requires { orderly.pages ≡ image.now.pages }
+    ensures { IfOk result (IsOutcomeOf orderly image.now) }
+{
+    match way {
+        Way::One => replay_one(alloc, orderly, image),
+        Way::Plain | Way::Rounds => replay_rounds(rt, alloc, orderly, image, gate),
+    }
+}
+
 /// Where the replay of a log ends.
-fn outcome_of(alloc: Global, log: Log, image: &Image) -> Result<Final, Ending>
+pub(crate) fn outcome_of<T: Threads + Sync, G: Gate>(
+    rt: &T,
+    alloc: Global,
+    log: Log,
+    image: &Image,
+    way: Way,
+    gate: &G,
+) -> Result<Final, Ending>
     requires range { IsTrue (in_range log) }
     requires whole { IsWhole image.now }
     requires pages { log.pages ≡ image.now.pages }
@@ -85,7 +115,7 @@ fn outcome_of(alloc: Global, log: Log, image: &Image) -> Result<Final, Ending>
         Ok(orderly) => orderly,
         Err(ending) => return Err(ending),
     };
-    match replay_one(alloc, orderly, image) {
+    match played(rt, alloc, orderly, image, way, gate) {
         Ok(Outcome::Done(end)) => Ok(end),
         Ok(
             Outcome::Diverged {
@@ -125,7 +155,13 @@ fn keep_end<S: Shelf>(alloc: Global, request: &ReplayRequest, end: &Final, shelf
     }
 }
 
-fn replayed<S: Shelf>(alloc: Global, request: &ReplayRequest, shelf: &mut S) -> Ending
+fn replayed<T: Threads + Sync, S: Shelf, G: Gate>(
+    rt: &T,
+    alloc: Global,
+    request: &ReplayRequest,
+    shelf: &mut S,
+    gate: &G,
+) -> Ending
     requires writing { (S.seen shelf.old).writing ≡ false }
     requires log { S.has shelf.old request.now.log.now }
     requires image { S.has shelf.old request.now.image.now }
@@ -140,19 +176,21 @@ fn replayed<S: Shelf>(alloc: Global, request: &ReplayRequest, shelf: &mut S) -> 
         Ok(image) => image,
         Err(ending) => return ending,
     };
-    match outcome_of(alloc, log, &image) {
+    match outcome_of(rt, alloc, log, &image, request.way, gate) {
         Ok(end) => keep_end(alloc, request, &end, shelf),
         Err(ending) => ending,
     }
 }
 
-/// Replays the log that is asked for, on one thread.
-pub(crate) fn replay<S: Shelf, C: Console, K: Clock>(
+/// Replays the log that is asked for.
+pub(crate) fn replay<T: Threads + Sync, S: Shelf, C: Console, K: Clock, G: Gate>(
+    rt: &T,
     alloc: Global,
     request: &ReplayRequest,
     shelf: &mut S,
     console: C,
     clock: K,
+    gate: &G,
 ) -> Ended<C, K>
     requires writing { (S.seen shelf.old).writing ≡ false }
     requires log { S.has shelf.old request.now.log.now }
@@ -162,5 +200,5 @@ pub(crate) fn replay<S: Shelf, C: Console, K: Clock>(
     ensures console { result.console ≡ console }
     ensures clock { result.clock ≡ clock }
 {
-    without_run(replayed(alloc, request, shelf), console, clock)
+    without_run(replayed(rt, alloc, request, shelf, gate), console, clock)
 }

@@ -236,7 +236,7 @@ fn failing_shelves() -> [Row; 9] {
 }
 
 /// Commands that are refused before anything is begun.
-fn refusals() -> [Row; 10] {
+fn refusals() -> [Row; 8] {
     [
         plain_row("", smallest(), 1, "usage: word 0"),
         plain_row("record g", smallest(), 1, "usage: word 2"),
@@ -245,9 +245,7 @@ fn refusals() -> [Row; 10] {
         plain_row("record g l --limit 05", smallest(), 1, "usage: word 4"),
         plain_row("record g l --dump l", smallest(), 1, "usage: word 4"),
         plain_row("replay g l --one --rounds", smallest(), 1, "usage: word 4"),
-        plain_row("replay g l --rounds", smallest(), 12, "not built"),
         plain_row("trace g l 0 3 2", smallest(), 1, "usage: word 5"),
-        plain_row("sample 7", smallest(), 12, "not built"),
     ]
 }
 

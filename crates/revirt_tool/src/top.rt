@@ -6,13 +6,14 @@ ghost use Rattle.command_words.specs.Grammar.{asks_free_run};
 ghost use Rattle.revirt_tool.specs.Tasks.{Fetches, AsksNoRun};
 ghost use Rattle.revirt_tool.specs.Serving.{EndsAs, around, Serves};
 ghost use Rattle.crew_parts.specs.Boards.{world};
-ghost use Rattle.revirt_tool.specs.Complete.{RecordingsAreDone, SameAreKept, ListingsAreDone, KeptAreLogs, ReplaysAreDone, KeptAreReplayed, TracesAreDone};
+ghost use Rattle.revirt_tool.specs.Complete.{RecordingsAreDone, SameAreKept, ListingsAreDone, KeptAreLogs, ReplaysAreDone, KeptAreReplayed, TracesAreDone, SamplesAreDone};
 
 use crate::command::{Command, command_of};
 use crate::ending::{Ended, Ending, close, without_run};
 use crate::inspecting::inspect;
 use crate::recording::record;
 use crate::replaying::replay;
+use crate::sampling::sample;
 use crate::tracing::trace;
 use command_words::Usage;
 use outside::{Clock, Console, Gate, Shelf, Sink};
@@ -49,10 +50,10 @@ fn serve<T: Threads + Sync, S: Shelf, C: Console, K: Clock, G: Gate>(
     match command_of(words) {
         Err(Usage { place }) => without_run(Ending::Usage { place }, console, clock),
         Ok(Command::Record(request)) => record(rt, alloc, &request, shelf, console, clock, gate),
-        Ok(Command::Replay(request)) => replay(alloc, &request, shelf, console, clock),
+        Ok(Command::Replay(request)) => replay(rt, alloc, &request, shelf, console, clock, gate),
         Ok(Command::Trace(request)) => trace(alloc, &request, shelf, console, clock),
         Ok(Command::Inspect(log)) => inspect(alloc, log, shelf, console, clock),
-        Ok(Command::Unbuilt) => without_run(Ending::NotBuilt, console, clock),
+        Ok(Command::Sample(number)) => sample(rt, alloc, number, console, clock, gate),
     }
 }
 
@@ -141,4 +142,9 @@ pub fn replays_are_done()
 /// ran out.
 pub fn traces_are_done()
     ensures { TracesAreDone }
+{}
+
+/// A sample's summary is printed where the sink doesn't fail, or memory ran out.
+pub fn samples_are_done()
+    ensures { SamplesAreDone }
 {}

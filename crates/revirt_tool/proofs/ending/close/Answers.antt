@@ -6,8 +6,8 @@ use Rattle.revirt_tool.proofs.ending.close.Goals as goal
 
 pub returns-in-TooLong : goal.returns-in-TooLong
 returns-in-TooLong g c =
-    as_too_long c.args.ending _ _ c.in-TooLong.file c.print-in-TooLong.result c.too_long.result.now c.in-TooLong.is c.too_long.ensures
-    c.print-in-TooLong.ensures
+    as_too_long c.args.ending _ _ c.in-TooLong.file c.print.result c.too_long.result.now c.in-TooLong.is c.too_long.ensures
+    c.print.ensures
 
 pub returns-in-ShelfFault : goal.returns-in-ShelfFault
 returns-in-ShelfFault g c = as_ending c.args.ending ShelfFault _ _ c.print-in-ShelfFault.result c.in-ShelfFault.is (inl c.print-in-ShelfFault.ensures)

@@ -1,0 +1,94 @@
+//! Replays by the top call, in each way.
+
+use crate::listing_tests::race_log;
+use crate::tests::{bytes_of, has_lines, race_guest, words_of};
+use crate::{Finish, revirt};
+use outside::{Gate, HoldGate, MemClock, MemShelf, MemSink, OpenGate, SureConsole};
+use std::alloc::Global;
+use std::sync::Wait;
+use std::test::Fail;
+use std::thread::Threads;
+
+/// What words came to over a shelf.
+#[derive(Drop)]
+struct Told {
+    status: u8,
+    report: MemSink,
+}
+
+fn tell<T: Threads + Wait + Sync, G: Gate>(
+    rt: &T,
+    alloc: Global,
+    line: &str,
+    shelf: &mut MemShelf,
+    gate: &G,
+) -> Result<Told, Fail> {
+    let words = words_of(alloc, line)?;
+    let mut report = MemSink::start(alloc, 10_000, &[])?;
+    let Finish { status, .. } = revirt(
+        rt,
+        alloc,
+        &words,
+        shelf,
+        SureConsole::start(),
+        MemClock::start(5, 0),
+        gate,
+        &mut report,
+    );
+    Ok(Told { status, report })
+}
+
+fn ways() -> [&'static str; 3] {
+    [
+        "replay g l --dump d",
+        "replay g l --rounds --dump d",
+        "replay g l --one --dump d",
+    ]
+}
+
+/// Whether the dump's second page begins with the word 1.
+fn has_one(dump: Option<&[u8]>) -> bool {
+    match dump {
+        Some(bytes) => bytes.len() == 8192 && bytes.get(4096..4100) == Some(&[1, 0, 0, 0]),
+        None => false,
+    }
+}
+
+#[test]
+fn a_race_is_replayed_in_each_way(rt: HostRuntime) -> Result<(), Fail> {
+    let alloc = rt.alloc();
+    let lines = "cause limit\nhart 0 count 8 pc 80000010\nhart 1 count 8 pc 80000010";
+    for line in ways() {
+        let mut shelf = MemShelf::start(alloc, 100_000, &[])?;
+        shelf.hold("g", bytes_of(alloc, race_guest())?.as_slice());
+        shelf.hold("l", race_log());
+        let told = tell(&rt, alloc, line, &mut shelf, &OpenGate)?;
+        assert_eq!(rt; told.status, 0);
+        assert!(rt; has_lines(told.report.written(), lines));
+        assert!(rt; has_one(shelf.held("d")));
+    }
+    Ok(())
+}
+
+/// A recording of two harts that stay where they are, and its replays.
+fn standing_lines() -> [&'static str; 3] {
+    [
+        "record g l --harts 2 --pages 1 --limit 4096",
+        "replay g l",
+        "replay g l --rounds",
+    ]
+}
+
+#[test]
+fn harts_move_beside_each_other(rt: HostRuntime) -> Result<(), Fail> {
+    let alloc = rt.alloc();
+    let mut shelf = MemShelf::start(alloc, 100_000, &[])?;
+    shelf.hold("g", bytes_of(alloc, &[0x0000_006F])?.as_slice());
+    for line in standing_lines() {
+        let gate = HoldGate::start(0);
+        let told = tell(&rt, alloc, line, &mut shelf, &gate)?;
+        assert_eq!(rt; told.status, 0);
+        assert!(rt; !gate.ran_out());
+    }
+    Ok(())
+}
