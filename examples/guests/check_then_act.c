@@ -36,10 +36,10 @@ int main(uint32_t hart) {
     wait_for_all(&start);
     uint32_t mine = seed * 2654435761u + hart + 1;
     for (uint32_t done = 0; done < VISITS; done++) {
-        work(random_from(&mine) % 262144);
+        work(random_from(&mine) % 65536);
         lock();
         guarded.inside = hart + 1;
-        work(16);
+        work(1024);
         if (guarded.inside != hart + 1) {
             together = hart + 1;
         }

@@ -12,10 +12,19 @@ static struct queue queue __attribute__((aligned(4096)));
 static char rest_of_the_page[4096 - sizeof queue] __attribute__((aligned(4), used));
 static volatile uint32_t seed, started;
 
+/* A square is the sum of the first odd numbers. */
+static uint32_t square_of(uint32_t number) {
+    uint32_t sum = 0;
+    for (volatile uint32_t odd = 1; odd < 2 * number; odd += 2) {
+        sum += odd;
+    }
+    return sum;
+}
+
 static void put(uint32_t number) {
     uint32_t place = queue.put;
     queue.put = place + 1;
-    queue.places[place] = number;
+    queue.places[place] = square_of(number);
 }
 
 static uint32_t take(uint32_t place) {
@@ -24,13 +33,9 @@ static uint32_t take(uint32_t place) {
     return queue.places[place];
 }
 
-/* The squares are sums of odd numbers, which takes the time that makes the queue worth having. */
-static uint32_t square_of(uint32_t number) {
-    uint32_t sum = 0;
-    for (uint32_t odd = 1; odd < 2 * number; odd += 2) {
-        sum += odd;
+static void work(uint32_t times) {
+    for (volatile uint32_t left = times; left != 0; left--) {
     }
-    return sum;
 }
 
 int main(uint32_t hart) {
@@ -39,7 +44,8 @@ int main(uint32_t hart) {
         started = 1;
         uint32_t mine = seed * 2654435761u + 1;
         for (uint32_t place = 0; place < NUMBERS; place++) {
-            put(square_of(random_from(&mine) % 4096 + 1));
+            work(random_from(&mine) % 4096);
+            put(random_from(&mine) % 64 + 1);
         }
         for (;;) {
         }

@@ -3,7 +3,7 @@
 #include "board.h"
 
 #define HARTS 2
-#define ADDITIONS 2
+#define ADDITIONS 4
 
 static struct barrier start = {.harts = HARTS}, end = {.harts = HARTS};
 static volatile uint32_t seed;
@@ -12,9 +12,9 @@ static volatile uint32_t seed;
 static volatile uint32_t number __attribute__((aligned(4096)));
 static char rest_of_the_page[4092] __attribute__((aligned(4), used));
 
-/* Some ten thousand moves that need nothing of other harts. */
+/* Moves that need nothing of other harts. */
 static void work(uint32_t times) {
-    for (volatile uint32_t left = times % 65536; left != 0; left--) {
+    for (volatile uint32_t left = times; left != 0; left--) {
     }
 }
 
@@ -25,7 +25,7 @@ int main(uint32_t hart) {
     wait_for_all(&start);
     uint32_t mine = seed * 2654435761u + hart + 1;
     for (uint32_t done = 0; done < ADDITIONS; done++) {
-        work(random_from(&mine));
+        work(random_from(&mine) % 32768);
         number = number + 1;
     }
     wait_for_all(&end);
