@@ -1,9 +1,9 @@
 -- Legs of all harts.
 use Rattle.std.proofs.Common.{◌≡◌, ℕ, ◌<◌, ◌≤◌, true, List, length, Option, Some, None, slice_get, slice_index, slice_index_or, refl, sym, ap, ◌∙◌, subst}
-use Rattle.std.proofs.Common.{arith, slice_set, take, drop, ◌++◌, ◌+◌, inl, inr}
+use Rattle.std.proofs.Common.{arith, slice_set, [], ◌∷◌, length-append, ◌++◌, ◌+◌, inl, inr}
 use Rattle.std.proofs.lemmas.Option.{get_or_from_slice_get, same_Some, slice_get-get_or, slice_get_read, slice_get_within}
 use Rattle.std.proofs.lemmas.Bool.Decides.{eqb_tells}
-use Rattle.std.proofs.lemmas.List.{get_or-set_other, length-set, take-append-le, take_all}
+use Rattle.std.proofs.lemmas.List.{get_or-append-add, get_or-set_other, get_or_append_left, length-set}
 use Rattle.shared_types.proofs.Lists.{found_at, set_here}
 use Rattle.replay_model.specs.Board.{board}
 use Rattle.replay_model.specs.State.{IsCrewState}
@@ -128,7 +128,42 @@ untils_more orders untils i x n few value is are = record {
   ];
 }
 
--- what a slice wrote back
-pub written_back : (n : ℕ) (xs ys : List Run) → length ys ≡ n → length xs ≡ length ys → take n (xs ++ drop (length xs) ys) ≡ xs
-written_back n xs ys size same =
-    take-append-le n xs (drop (length xs) ys) (omega (arith, size, same)) ∙ take_all n xs (omega (arith, size, same))
+-- the runs before the last one, and the last
+pub may_go_before : (runs rest : List Run) (r : Run) (untils : List (Option ℕ)) → runs ≡ rest ++ r ∷ [] → MayGo runs untils → MayGo rest untils
+may_go_before runs rest r untils are may h x less at =
+    may h x (let l = ap length are in omega (arith, l, less, length-append rest (r ∷ [])))
+    (at ∙ sym (ap (λ l. slice_index_or l h x) are ∙ get_or_append_left rest (r ∷ []) x h less))
+
+pub last_within : (runs rest : List Run) (r : Run) (untils : List (Option ℕ)) → runs ≡ rest ++ r ∷ [] → MayGo runs untils
+    → IsWithin r (slice_index_or untils (length rest) None)
+last_within runs rest r untils are may =
+    may (length rest) r (let l = ap length are in omega (arith, l, length-append rest (r ∷ [])))
+    (sym (ap (λ l. slice_index_or l (length rest) r) are
+    ∙ ap (λ n. slice_index_or (rest ++ r ∷ []) n r) (let e : length rest ≡ length rest + 0 = omega arith in e)
+    ∙ get_or-append-add rest (r ∷ []) 0 r))
+
+-- one run more made its leg
+at_end : (rest : List Run) (r d : Run) (h : ℕ) → h ≡ length rest → slice_index_or (rest ++ r ∷ []) h d ≡ r
+at_end rest r d h is =
+    ap (λ n. slice_index_or (rest ++ r ∷ []) n d) (let e : h ≡ length rest + 0 = omega (arith, is) in e) ∙ get_or-append-add rest (r ∷ []) 0 d
+
+pub gone_more : (rest gone : List Run) (r after : Run) (untils : List (Option ℕ)) → HaveGone rest gone untils
+    → Goes r after (slice_index_or untils (length rest) None) → HaveGone (rest ++ r ∷ []) (gone ++ after ∷ []) untils
+gone_more rest gone r after untils are went = record {
+  number = length-append gone (after ∷ []) ∙ ap (λ n. n + 1) are.number ∙ sym (length-append rest (r ∷ []));
+  each = λ h d less. elim (eqb_tells h (length rest)) [
+    | inl same ↦
+        subst (λ x. Goes x (slice_index_or (gone ++ after ∷ []) h d) (slice_index_or untils h None)) (sym (at_end rest r d h same.1))
+        (subst (λ x. Goes r x (slice_index_or untils h None)) (sym (at_end gone after d h (same.1 ∙ sym are.number)))
+        (subst (λ n. Goes r after (slice_index_or untils n None)) (sym same.1) went))
+    | inr other ↦
+        let short : h < length rest = (let k = other.1 in omega (arith, less, k, length-append rest (r ∷ []))) in
+        subst (λ x. Goes x (slice_index_or (gone ++ after ∷ []) h d) (slice_index_or untils h None))
+        (sym (get_or_append_left rest (r ∷ []) d h short))
+        (subst (λ x. Goes (slice_index_or rest h d) x (slice_index_or untils h None))
+        (sym (get_or_append_left gone (after ∷ []) d h (let n = are.number in omega (arith, short, n)))) (are.each h d short))
+  ];
+}
+
+pub none_gone : (runs : List Run) (untils : List (Option ℕ)) → length runs ≡ 0 → HaveGone runs runs untils
+none_gone runs untils none = record { number = refl; each = λ h d less. absurd (omega (arith, none, less)) }

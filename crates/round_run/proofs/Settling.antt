@@ -4,7 +4,7 @@ use Rattle.std.proofs.Common.{slice_get, slice_index, slice_index_or, refl, sym,
 use Rattle.std.specs.Prelude.{IfSome, is_some}
 use Rattle.std.specs.List.{list_any}
 use Rattle.std.proofs.lemmas.Bool.{cases_eq, cases_lt, eq-eqb}
-use Rattle.std.proofs.lemmas.Option.{get_or_from_slice_get, slice_get-get_or, slice_get_read, slice_get_within}
+use Rattle.std.proofs.lemmas.Option.{get_or_from_slice_get, slice_get_read, slice_get_within}
 use Rattle.shared_types.proofs.Lists.{found_at}
 use Rattle.elf_image.specs.Image.{Image}
 use Rattle.log_entry.specs.declared.log.Entry.{Entry}

@@ -12,6 +12,7 @@ use Rattle.run_model.specs.Run.{Run}
 use Rattle.replay_parts.specs.Boards.{Plain, state_of}
 use Rattle.replay_parts.specs.Laws.{Reaches}
 use Rattle.replay_parts.specs.Parts.{IsPart, until_in}
+use Rattle.replay_core.specs.Items.{IsStuck}
 use Rattle.replay_core.specs.declared.went.Pace.{Pace}
 use Rattle.replay_core.specs.declared.went.Pace.TheVariants.{Go}
 use Rattle.round_run.specs.Legs.{Goes}
@@ -106,3 +107,14 @@ pub record Settles (p q : Plain) (before after : List Run) (untils : List (Optio
   pub places : length untils ≡ 8
   pub told : MayAllMove q untils
   pub less : SomeHasMoved p before → left_in q < left_in p
+
+-- a replay before its first round
+pub record MayReplay (p : Plain) (runs : List Run) (untils : List (Option ℕ)) : Type 0 where
+  pub led : AreLed 0 p runs
+  pub places : length untils ≡ 8
+
+-- and behind its last: no hart can go on
+pub record ReplayEnds (p q : Plain) (runs : List Run) : Type 0 where
+  pub same : SameReplay p q
+  pub parts : AreAllParts q runs
+  pub stuck : IsStuck q.log (state_of q)

@@ -17,6 +17,13 @@ use Rattle.round_run.specs.Legs.{HaveStood, IsReady}
 abbrev pub start_of : Plain → Plain
 start_of p = plain_at_start p.image p.harts p.limit p.log_limit p.first
 
+-- a board before any turn, within its limit, whose harts stand at their latest turns
+pub record MayBegin (p : Plain) (runs : List Run) (orders : List (Option Order)) (stood : List ℕ) : Type 0 where
+  pub start : p ≡ start_of p
+  pub limit : p.limit ≤ 1000000000000
+  pub manned : IsManned p runs orders still
+  pub stays : HaveStood p stood
+
 -- how many rounds there may still be
 abbrev pub rounds_in : Plain → ℕ
 rounds_in p = if is_over_in p then 0 else left_in p + 1

@@ -88,9 +88,10 @@ fn three_replays_agree<R: Abort + Threads + Sync>(rt: &R, alloc: Global) -> bool
         && same_end(&rounds, &done(rt, items))
 }
 
-fn beside_each_other<R: Abort + Threads + Sync>(rt: &R, alloc: Global) -> bool {
-    let r = recorded(rt, alloc, &LOOPS, 2, 4096, &OpenGate);
-    let gate = HoldGate::start(0);
+/// Three legs of 4,096 moves each; both harts have to be in this one at once.
+fn beside_each_other<R: Abort + Threads + Sync>(rt: &R, alloc: Global, leg: u64) -> bool {
+    let r = recorded(rt, alloc, &LOOPS, 2, 3 * 4096, &OpenGate);
+    let gate = HoldGate::start(leg);
     let end = done(rt, in_rounds(rt, alloc, &LOOPS, r.log, &gate));
     same_end(&end, &r.ended) && !gate.ran_out()
 }
@@ -152,7 +153,8 @@ fn diverges<R: Abort + Threads + Sync>(rt: &R, alloc: Global) -> bool {
 #[test]
 fn replays(rt: HostRuntime) {
     assert!(rt; three_replays_agree(&rt, rt.alloc()));
-    assert!(rt; beside_each_other(&rt, rt.alloc()));
+    assert!(rt; beside_each_other(&rt, rt.alloc(), 0));
+    assert!(rt; beside_each_other(&rt, rt.alloc(), 2));
     assert!(rt; of_no_moves(&rt, rt.alloc()));
     assert!(rt; diverges(&rt, rt.alloc()));
 }

@@ -1,14 +1,12 @@
 //! Replays in rounds: turns until none changes anything, and the legs of all harts at once.
 
-ghost use Rattle.std.specs.Prelude.{ℕ, ◌≡◌, ◌<◌, IfOk, is_some, length, slice_index_or, None, Some};
+ghost use Rattle.std.specs.Prelude.{ℕ, ◌≡◌, ◌<◌, IfOk, OnOk, is_some, length, slice_index_or, None, Some};
 ghost use Rattle.std.specs.List.{list_any};
 ghost use Rattle.replay_core.specs.Ends.{IsOutcomeOf};
-ghost use Rattle.replay_core.specs.Items.{IsStuck};
-ghost use Rattle.replay_parts.specs.Boards.{state_of};
-ghost use Rattle.round_run.specs.Replays.{AreAllParts, AreLed, HadTurn, HadTurns, MayAllMove, SameReplay, Settles};
+ghost use Rattle.round_run.specs.Replays.{AreAllParts, AreLed, HadTurn, HadTurns, MayAllMove, MayReplay, ReplayEnds, Settles};
 ghost use Rattle.round_run.specs.Replays.{SomeHasMoved, until_paced};
 
-use crate::legs::{legs, next_legs};
+use crate::legs::{Hands, end_all, helpers, legs, next_legs};
 use elf_image::Image;
 use hart_run::HartRun;
 use log_order::Orderly;
@@ -16,6 +14,7 @@ use outside::Gate;
 use recorder::PLACES;
 use replay_core::{Outcome, Pace, ReplayBoard};
 use shared_types::NoMemory;
+use side_work::beside;
 use std::alloc::Global;
 use std::thread::Threads;
 
@@ -90,35 +89,45 @@ impl Replay {
     }
 
     /// Each hart that may move makes its leg, all at once.
-    fn go_on<T: Threads + Sync, G: Gate>(&mut self, rt: &T, gate: &G)
+    fn go_on<G: Gate>(&mut self, gate: &G, hands: &mut Hands) -> Result<(), NoMemory>
         requires parts { AreAllParts self.old.board self.old.runs.items }
         requires told { MayAllMove self.old.board self.old.untils }
         ensures board { self.new.board ≡ self.old.board }
         ensures untils { self.new.untils ≡ self.old.untils }
-        ensures led { AreLed 0 self.new.board self.new.runs.items }
-        ensures moved { (h until : ℕ) → h < length self.old.runs.items
-            → slice_index_or self.old.untils h None ≡ Some until → SomeHasMoved self.new.board self.new.runs.items }
+        ensures led { OnOk result (AreLed 0 self.new.board self.new.runs.items) }
+        ensures moved { OnOk result ((h until : ℕ) → h < length self.old.runs.items
+            → slice_index_or self.old.untils h None ≡ Some until → SomeHasMoved self.new.board self.new.runs.items) }
     {
         let _ = self.board.harts();
-        legs(rt, self.runs.as_mut_slice(), &self.untils, gate, &self.legs);
+        legs(&mut self.runs, hands, &self.untils, gate, &self.legs)?;
         next_legs(&self.untils, &mut self.legs);
+        Ok(())
     }
 
     /// Rounds, until no hart can go on.
-    fn rounds<T: Threads + Sync, G: Gate>(&mut self, rt: &T, gate: &G)
-        requires led { AreLed 0 self.old.board self.old.runs.items }
-        requires places { length self.old.untils ≡ PLACES }
-        ensures same { SameReplay self.old.board self.new.board }
-        ensures parts { AreAllParts self.new.board self.new.runs.items }
-        ensures stuck { IsStuck self.new.board.log (state_of self.new.board) }
+    fn rounds<G: Gate>(&mut self, gate: &G, hands: &mut Hands) -> Result<(), NoMemory>
+        requires { MayReplay self.old.board self.old.runs.items self.old.untils }
+        ensures { OnOk result (ReplayEnds self.old.board self.new.board self.new.runs.items) }
     {
         let _ = self.board.harts();
         self.settle();
         'rounds: while may_any_move(&self.untils[..self.runs.len()]) {
-            self.go_on(rt, gate);
+            self.go_on(gate, hands)?;
             self.settle();
         }
+        Ok(())
     }
+}
+
+/// Rounds until no hart can go on, and the end of the workers.
+fn finished<G: Gate>(mut replay: Replay, gate: &G, mut hands: Hands) -> Result<Replay, NoMemory>
+    requires { MayReplay replay.board replay.runs.items replay.untils }
+    ensures { IfOk result (λ r. ReplayEnds replay.board r.board r.runs.items) }
+{
+    let made = replay.rounds(gate, &mut hands);
+    end_all(hands);
+    made?;
+    Ok(replay)
 }
 
 /// The outcome of the replay of a log over an image, in rounds. In a round the harts have turns, in their order, until
@@ -136,14 +145,23 @@ pub fn replay_rounds<T: Threads + Sync, G: Gate>(
 {
     let _ = image.pages();
     let (board, runs) = ReplayBoard::start(alloc, orderly, image)?;
-    let _ = board.harts();
-    let mut replay = Replay {
+    let (hands, workers) = helpers(alloc, board.harts());
+    let replay = Replay {
         board,
         runs,
         untils: [None; PLACES],
         legs: [0; PLACES],
     };
-    replay.rounds(rt, gate);
-    let Replay { board, runs, .. } = replay;
+    let made = beside(
+        rt,
+        workers,
+        gate,
+        move || -> Result<Replay, NoMemory>
+            requires { MayReplay replay.board replay.runs.items replay.untils }
+            ensures { IfOk result (λ r. ReplayEnds replay.board r.board r.runs.items) }
+        { finished(replay, gate, hands) },
+    );
+    let ended = made?;
+    let Replay { board, runs, .. } = ended;
     Ok(board.stage(runs).finish())
 }

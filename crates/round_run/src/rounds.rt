@@ -6,15 +6,16 @@ ghost use Rattle.recorded_turns.specs.Recordings.{RecordsInRounds};
 ghost use Rattle.recorder.specs.Manned.{HasGiven, HasTurnOf, IsManned, still};
 ghost use Rattle.round_run.specs.Legs.{HaveStood, IsReady};
 ghost use Rattle.round_run.specs.Sweeps.{TakesRound, TakesSweep};
-ghost use Rattle.round_run.specs.Rounds.{LastTurn, RoundsEnd, TakesAll, TakesLast, last_moves, start_of};
+ghost use Rattle.round_run.specs.Rounds.{LastTurn, MayBegin, RoundsEnd, TakesAll, TakesLast, last_moves, start_of};
 
-use crate::legs::{counts_of, legs, next_legs, untils_of};
+use crate::legs::{Hands, counts_of, end_all, helpers, legs, next_legs, untils_of};
 use crew_core::{OutOfMemory, Recorded};
 use elf_image::Image;
 use outside::{Clock, Console, Gate};
 use recorder::{PLACES, Recording};
 use rv_words::MAX_HARTS;
 use shared_types::NoMemory;
+use side_work::beside;
 use std::alloc::Global;
 use std::thread::Threads;
 
@@ -97,32 +98,28 @@ struct Rounds<C: Console, K: Clock> {
 
 impl<C: Console, K: Clock> Rounds<C, K> {
     /// Each hart that was told to go on makes its leg, all at once.
-    fn go_on<T: Threads + Sync, G: Gate>(&mut self, rt: &T, gate: &G)
+    fn go_on<G: Gate>(&mut self, gate: &G, hands: &mut Hands) -> Result<(), NoMemory>
         requires { IsManned self.old.recording.board self.old.recording.runs.items self.old.recording.orders still }
         ensures board { self.new.recording.board ≡ self.old.recording.board }
-        ensures ready { IsReady self.new.recording.board self.new.recording.runs.items self.new.recording.orders true }
+        ensures ready { OnOk result
+            (IsReady self.new.recording.board self.new.recording.runs.items self.new.recording.orders true) }
         ensures stood { HaveStood self.new.recording.board self.new.stood }
         ensures holds { IsBoardOf self.new.recording.board }
     {
         let _ = self.recording.board.harts();
         self.stood = counts_of(&self.recording.runs);
         let untils = untils_of(&self.recording.orders);
-        legs(
-            rt,
-            self.recording.runs.as_mut_slice(),
-            &untils,
-            gate,
-            &self.legs,
-        );
+        legs(&mut self.recording.runs, hands, &untils, gate, &self.legs)?;
         next_legs(&untils, &mut self.legs);
+        Ok(())
     }
 
     /// Rounds, with the legs behind each, until the board is over.
-    fn rounds<T: Threads + Sync, G: Gate>(
+    fn rounds<G: Gate>(
         &mut self,
-        rt: &T,
         alloc: Global,
         gate: &G,
+        hands: &mut Hands,
     ) -> Result<(), NoMemory>
         requires start { self.old.recording.board ≡ start_of self.old.recording.board }
         requires manned { IsManned self.old.recording.board
@@ -137,7 +134,7 @@ impl<C: Console, K: Clock> Rounds<C, K> {
         let mut number = 0;
         while !self.recording.board.over() {
             round(alloc, &mut self.recording, number)?;
-            self.go_on(rt, gate);
+            self.go_on(gate, hands)?;
             number += 1;
         }
         Ok(())
@@ -179,12 +176,7 @@ impl<C: Console, K: Clock> Rounds<C, K> {
     }
 
     /// Rounds until the board is over, and the last turns.
-    fn all<T: Threads + Sync, G: Gate>(
-        &mut self,
-        rt: &T,
-        alloc: Global,
-        gate: &G,
-    ) -> Result<(), NoMemory>
+    fn all<G: Gate>(&mut self, alloc: Global, gate: &G, hands: &mut Hands) -> Result<(), NoMemory>
         requires start { self.old.recording.board ≡ start_of self.old.recording.board }
         requires limit { self.old.recording.board.limit ≤ 1000000000000 }
         requires manned { IsManned self.old.recording.board
@@ -194,11 +186,28 @@ impl<C: Console, K: Clock> Rounds<C, K> {
         ensures taken { OnOk result (TakesAll self.old.recording.board self.new.recording.board
             self.new.recording.runs.items self.new.recording.orders) }
     {
-        self.rounds(rt, alloc, gate)?;
+        self.rounds(alloc, gate, hands)?;
         let _ = self.recording.board.harts();
         self.last_turns(alloc)?;
         Ok(())
     }
+}
+
+/// Rounds until the board is over, the last turns, and the end of the workers.
+fn finished<C: Console, K: Clock, G: Gate>(
+    mut rounds: Rounds<C, K>,
+    alloc: Global,
+    gate: &G,
+    mut hands: Hands,
+) -> (Rounds<C, K>, Result<(), NoMemory>)
+    requires { MayBegin rounds.recording.board rounds.recording.runs.items rounds.recording.orders rounds.stood }
+    ensures given { HasGiven rounds.recording.board.now result.0.recording.board.now }
+    ensures taken { OnOk result.1 (TakesAll rounds.recording.board result.0.recording.board
+        result.0.recording.runs.items result.0.recording.orders) }
+{
+    let made = rounds.all(alloc, gate, &mut hands);
+    end_all(hands);
+    (rounds, made)
 }
 
 /// Records a board in rounds, until it is over. In a round each hart has three turns; then all that were told to go on
@@ -229,12 +238,24 @@ pub fn record_rounds<T: Threads + Sync, C: Console, K: Clock, G: Gate>(
 {
     let _ = image.pages();
     let recording = Recording::start(alloc, image, harts, limit, log_limit, console, clock)?;
-    let mut rounds = Rounds {
+    let rounds = Rounds {
         recording,
         legs: [0; PLACES],
         stood: [0; PLACES],
     };
-    match rounds.all(rt, alloc, gate) {
+    let (hands, workers) = helpers(alloc, harts);
+    let (rounds, made) = beside(
+        rt,
+        workers,
+        gate,
+        move || -> (Rounds<C, K>, Result<(), NoMemory>)
+            requires { MayBegin rounds.recording.board rounds.recording.runs.items rounds.recording.orders rounds.stood }
+            ensures { HasGiven rounds.recording.board.now result.0.recording.board.now
+                × OnOk result.1 (TakesAll rounds.recording.board result.0.recording.board
+                result.0.recording.runs.items result.0.recording.orders) }
+        { finished(rounds, alloc, gate, hands) },
+    );
+    match made {
         Ok(()) => rounds.recording.finish(),
         Err(NoMemory) => Err(rounds.recording.abandon()),
     }

@@ -97,9 +97,10 @@ fn stopped_by_hart_1<R: Abort + Threads + Sync>(rt: &R, alloc: Global) -> bool {
 // jal x0, 0
 pub(crate) const LOOPS: [u32; 1] = [0x0000_006f];
 
-fn beside_each_other<R: Abort + Threads + Sync>(rt: &R, alloc: Global) -> bool {
-    let gate = HoldGate::start(0);
-    let r = recorded(rt, alloc, &LOOPS, 2, 4096, &gate);
+/// Three legs of 4,096 moves each; both harts have to be in this one at once.
+fn beside_each_other<R: Abort + Threads + Sync>(rt: &R, alloc: Global, leg: u64) -> bool {
+    let gate = HoldGate::start(leg);
+    let r = recorded(rt, alloc, &LOOPS, 2, 3 * 4096, &gate);
     r.log.cause == Cause::Limit && !gate.ran_out()
 }
 
@@ -108,5 +109,6 @@ fn rounds(rt: HostRuntime) {
     assert!(rt; atomic_each(&rt, rt.alloc()));
     assert!(rt; same_bytes(&rt, rt.alloc()));
     assert!(rt; stopped_by_hart_1(&rt, rt.alloc()));
-    assert!(rt; beside_each_other(&rt, rt.alloc()));
+    assert!(rt; beside_each_other(&rt, rt.alloc(), 0));
+    assert!(rt; beside_each_other(&rt, rt.alloc(), 2));
 }

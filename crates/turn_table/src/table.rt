@@ -84,6 +84,7 @@ pub struct Pass<B: Parted> {
 type BoardTable<B> = Table<Option<B>, View<B, <B as Parted>::Part>, Opening<B>, Turns<B>, Global>;
 
 /// A board and its place, which is empty while a pass holds the board.
+#[derive(Drop)]
 pub struct TurnTable<B: Parted> {
     table: BoardTable<B>,
     ghost one: { (table.shared.table_id.words ≡ 1) × (table.shared.table_id.slots ≡ 1) },

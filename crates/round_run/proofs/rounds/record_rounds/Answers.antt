@@ -1,6 +1,8 @@
+use Rattle.std.specs.Prelude.{OnOk}
 use Rattle.std.proofs.Common.{subst, sym, ap₂}
 use Rattle.crew_parts.specs.Boards.{Plain, world}
 use Rattle.recorder.specs.Manned.{HasGiven}
+use Rattle.round_run.specs.Rounds.{TakesAll}
 use Rattle.recorder.proofs.Listing.{matched, passed_on}
 use Rattle.recorder.proofs.Manning.{given_none}
 use Rattle.round_run.proofs.Rounding.{rounds_recorded}
@@ -17,18 +19,21 @@ returns-in_err-recording g c =
 pub returns-in-Ok : goal.returns-in-Ok
 returns-in-Ok g c =
     let before = world (g.C.Console.seen c.args.console) (g.K.Clock.seen c.args.clock) in
-    let q = c.all.new.self.recording in
+    let q = c.beside-rounds.result.0.recording in
+    let taken =
+    subst (λ m. OnOk m (TakesAll c.in_ok-recording.recording.board q.board q.runs.items q.orders)) c.in-Ok.is c.beside-rounds.ensures.1
+    in
     matched c.finish.result (λ r ends now.
     rounds_recorded c.args.image.now c.args.harts c.args.limit c.args.log_limit before (world (g.C.Console.seen r.console) (g.K.Clock.seen r.clock))
     c.in_ok-recording.recording.board q.board q.runs.items q.orders r.log r.ended r.journal r.turns c.pages.ensures.whole c.requires.least
-    c.requires.most c.requires.limit c.requires.log_least c.requires.log_most c.in_ok-recording.ensures.board c.in-Ok.ensures.taken ends now)
+    c.requires.most c.requires.limit c.requires.log_least c.requires.log_most c.in_ok-recording.ensures.board taken ends now)
     (λ e now. subst (HasGiven before) (sym now)
-    (subst (λ (z : Plain). HasGiven z.now q.board.now) c.in_ok-recording.ensures.board c.all.ensures.given)) c.finish.ensures.ended
+    (subst (λ (z : Plain). HasGiven z.now q.board.now) c.in_ok-recording.ensures.board c.beside-rounds.ensures.0)) c.finish.ensures.ended
     c.finish.ensures.world c.finish.ensures.refused
 
 pub returns-in-Err : goal.returns-in-Err
 returns-in-Err g c =
     let before = world (g.C.Console.seen c.args.console) (g.K.Clock.seen c.args.clock) in
-    let q = c.all.new.self.recording in
+    let q = c.beside-rounds.result.0.recording in
     subst (HasGiven before) (sym c.abandon.ensures)
-    (subst (λ (z : Plain). HasGiven z.now q.board.now) c.in_ok-recording.ensures.board c.all.ensures.given)
+    (subst (λ (z : Plain). HasGiven z.now q.board.now) c.in_ok-recording.ensures.board c.beside-rounds.ensures.0)

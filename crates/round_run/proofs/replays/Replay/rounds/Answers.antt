@@ -29,11 +29,16 @@ rounds-smaller g c =
     let some = some_may m.untils c.len.result (sym c.may_any_move.ensures ∙ c.rounds-test.true) in
     let less : some.0 < length m.runs.items = (let l = some.1.1.0 in let is = c.len.ensures in omega (arith, l, is)) in
     subst (λ z. left_in c.settle-in-rounds.new.self.board < left_in z) c.go_on.ensures.board
-    (c.settle-in-rounds.ensures.less (c.go_on.ensures.moved some.0 some.1.0 less some.1.1.1))
+    (c.settle-in-rounds.ensures.less (c.in_ok-go_on.ensures.moved some.0 some.1.0 less some.1.1.1))
 
-pub returns-clause-stuck : goal.returns-clause-stuck
-returns-clause-stuck g c =
+pub returns : goal.returns
+returns g c =
     let m = c.rounds.self in
     let long : c.len.result ≡ length m.runs.items = (let is = c.len.ensures in omega (arith, is)) in
-    none_goes m.board m.runs.items m.untils c.rounds.invariant.parts c.rounds.invariant.told
-    (ap (λ n. list_any (λ u. is_some u) (take n m.untils)) (sym long) ∙ sym c.may_any_move.ensures ∙ c.rounds-test.false)
+    record {
+      same = c.rounds.invariant.same;
+      parts = c.rounds.invariant.parts;
+      stuck =
+          none_goes m.board m.runs.items m.untils c.rounds.invariant.parts c.rounds.invariant.told
+          (ap (λ n. list_any (λ u. is_some u) (take n m.untils)) (sym long) ∙ sym c.may_any_move.ensures ∙ c.rounds-test.false);
+    }

@@ -1,4 +1,4 @@
-use Rattle.std.proofs.Common.{ap, ◌∙◌, sym, length, slice_index, arith}
+use Rattle.std.proofs.Common.{ap, ◌∙◌, sym, slice_index, arith}
 use Rattle.replay_parts.specs.Boards.{Plain}
 use Rattle.round_run.proofs.Replaying.{differ_by, had_turn, inside_then, is_moved, run_found}
 use Rattle.round_run.proofs.replays.Replay.turn.Goals as goal

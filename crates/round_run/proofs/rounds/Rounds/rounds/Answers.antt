@@ -1,5 +1,6 @@
 use Rattle.std.proofs.Common.{◌≡◌, false, arith, subst, sym}
-use Rattle.crew_parts.specs.Boards.{is_over_in}
+use Rattle.crew_parts.specs.Boards.{Plain, is_over_in}
+use Rattle.recorder.specs.Manned.{HasGiven}
 use Rattle.recorder.proofs.Manning.{given_then}
 use Rattle.round_run.specs.Sweeps.{TakesRound}
 use Rattle.round_run.proofs.Rounding.{few_rounds, round_more, rounds_begin}
@@ -38,7 +39,7 @@ loop-alloc-smaller g c =
     q.recording.runs.items m.recording.orders a.orders q.recording.orders m.stood q.stood c.requires.start c.over.ensures.holds c.go_on.ensures.holds short
     c.loop-alloc.invariant
     (subst (λ z. TakesRound c.loop-alloc.number m.recording.board z a.runs.items a.orders) (sym c.go_on.ensures.board) c.in_ok-round.ensures.taken)
-    c.go_on.ensures.ready c.go_on.ensures.stood).1
+    c.in_ok-go_on.ensures.ready c.go_on.ensures.stood).1
 
 pub loop-alloc-preserved : goal.loop-alloc-preserved
 loop-alloc-preserved g c =
@@ -50,13 +51,20 @@ loop-alloc-preserved g c =
     q.recording.runs.items m.recording.orders a.orders q.recording.orders m.stood q.stood c.requires.start c.over.ensures.holds c.go_on.ensures.holds short
     c.loop-alloc.invariant
     (subst (λ z. TakesRound c.loop-alloc.number m.recording.board z a.runs.items a.orders) (sym c.go_on.ensures.board) c.in_ok-round.ensures.taken)
-    c.go_on.ensures.ready c.go_on.ensures.stood).0
+    c.in_ok-go_on.ensures.ready c.go_on.ensures.stood).0
 
 pub returns-in_err-round-clause-given : goal.returns-in_err-round-clause-given
 returns-in_err-round-clause-given g c =
     let takes = c.loop-alloc.invariant.takes in
     given_then c.args.self.now.recording.board.now c.loop-alloc.self.recording.board.now c.round.new.recording.board.now (takes.given, takes.gives)
     c.round.ensures.given
+
+pub returns-in_err-go_on-clause-given : goal.returns-in_err-go_on-clause-given
+returns-in_err-go_on-clause-given g c =
+    let takes = c.loop-alloc.invariant.takes in
+    subst (λ (z : Plain). HasGiven c.args.self.now.recording.board.now z.now) (sym c.go_on.ensures.board)
+    (given_then c.args.self.now.recording.board.now c.loop-alloc.self.recording.board.now c.round.new.recording.board.now
+    (takes.given, takes.gives) c.round.ensures.given)
 
 pub returns-clause-given : goal.returns-clause-given
 returns-clause-given g c = let takes = c.loop-alloc.invariant.takes in (takes.given, takes.gives)
