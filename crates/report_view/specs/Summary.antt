@@ -22,19 +22,13 @@ counts_line counts = codes "counts" ++ (spaced_counts counts ++ newline)
 abbrev pub log_line : ℕ → List ℕ
 log_line size = codes "log " ++ (decimal size ++ newline)
 
--- a report, by its digest
-abbrev pub record_line : List ℕ → List ℕ
-record_line report = codes "record " ++ (digest report ++ newline)
-
-abbrev pub one_line : List ℕ → List ℕ
-one_line report = codes "one " ++ (digest report ++ newline)
-
-abbrev pub rounds_line : List ℕ → List ℕ
-rounds_line report = codes "rounds " ++ (digest report ++ newline)
+-- a report, by its digest behind a name
+abbrev pub digest_line : List ℕ → List ℕ → List ℕ
+digest_line name report = name ++ (digest report ++ newline)
 
 -- the sample's number, what its recording ended with, the size of its log, and the reports of the recording, of the replay on
 -- one thread and of the replay in rounds
 abbrev pub summary : ℕ → Final → ℕ → List ℕ → List ℕ → List ℕ → List ℕ
 summary number ended size recorded one rounds =
     sample_line number ++ (cause_line ended.cause ended.stop ++ (counts_line ended.counts ++ (log_line size
-    ++ (record_line recorded ++ (one_line one ++ rounds_line rounds)))))
+    ++ (digest_line (codes "record ") recorded ++ (digest_line (codes "one ") one ++ digest_line (codes "rounds ") rounds)))))

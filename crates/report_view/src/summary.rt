@@ -2,7 +2,7 @@
 
 ghost use Rattle.std.specs.Prelude.{◌≡◌, ◌++◌, IsSome, IfOk, OnOk, string_bytes};
 ghost use Rattle.rv_words.specs.declared.shared.Cause.TheVariants.{Stop};
-ghost use Rattle.report_view.specs.Summary.{sample_line, spaced_count, spaced_counts, counts_line, log_line, record_line, one_line, rounds_line, summary};
+ghost use Rattle.report_view.specs.Summary.{sample_line, spaced_count, spaced_counts, counts_line, log_line, digest_line, summary};
 
 use crate::report::{put_cause, put_digest};
 use flat_machine::Final;
@@ -58,26 +58,15 @@ fn put_log(out: &mut String, size: usize) -> Result<(), AllocError>
     writeln!(out, "log {size}")
 }
 
-fn put_record(alloc: Global, out: &mut String, report: &[u8]) -> Result<(), AllocError>
-    ensures { OnOk result (string_bytes out.new ≡ string_bytes out.old ++ record_line report.now) }
+fn put_digest_line(
+    alloc: Global,
+    out: &mut String,
+    name: &str,
+    report: &[u8],
+) -> Result<(), AllocError>
+    ensures { OnOk result (string_bytes out.new ≡ string_bytes out.old ++ digest_line name.now report.now) }
 {
-    out.push_str("record ")?;
-    put_digest(alloc, out, report)?;
-    out.push_str("\n")
-}
-
-fn put_one(alloc: Global, out: &mut String, report: &[u8]) -> Result<(), AllocError>
-    ensures { OnOk result (string_bytes out.new ≡ string_bytes out.old ++ one_line report.now) }
-{
-    out.push_str("one ")?;
-    put_digest(alloc, out, report)?;
-    out.push_str("\n")
-}
-
-fn put_rounds(alloc: Global, out: &mut String, report: &[u8]) -> Result<(), AllocError>
-    ensures { OnOk result (string_bytes out.new ≡ string_bytes out.old ++ rounds_line report.now) }
-{
-    out.push_str("rounds ")?;
+    out.push_str(name)?;
     put_digest(alloc, out, report)?;
     out.push_str("\n")
 }
@@ -91,9 +80,9 @@ fn put_summary(alloc: Global, out: &mut String, of: &Summary) -> Result<(), Allo
     put_cause(out, of.ended.cause, of.ended.stop)?;
     put_counts(out, of.ended.counts.items())?;
     put_log(out, of.log)?;
-    put_record(alloc, out, of.recorded)?;
-    put_one(alloc, out, of.one)?;
-    put_rounds(alloc, out, of.rounds)
+    put_digest_line(alloc, out, "record ", of.recorded)?;
+    put_digest_line(alloc, out, "one ", of.one)?;
+    put_digest_line(alloc, out, "rounds ", of.rounds)
 }
 
 /// The summary of a sample.

@@ -2,7 +2,7 @@
 
 ghost use Rattle.std.specs.Prelude.{◌≡◌, ◌<◌, ◌^◌, length, vec_len, IsSome, IfOk};
 
-use crate::{can_be_told, report_text, trace_text};
+use crate::{Summary, can_be_told, report_text, summary_text, trace_text};
 use flat_machine::{Bytes, Counts, Final, Harts, Memory, Step, Steps};
 use rv_hart::Hart;
 use rv_words::Cause;
@@ -277,5 +277,46 @@ fn a_move_without_instruction_or_trap_is_not_told(rt: HostRuntime) -> Result<(),
     let alloc = rt.alloc();
     let steps = vec![in alloc; step(0x8000_0000, Some(0), None, None)]?;
     assert!(rt; text_of(alloc, 0, steps).is_none());
+    Ok(())
+}
+
+// The digests are those of sha256sum, of no bytes, of "a" and of "b".
+const SUMMARY: &str = "sample 7
+cause stop 5
+counts 1 2 3 4
+log 123
+record e3b0c44298fc1c149afbf4c8996fb92427ae41e4649b934ca495991b7852b855
+one ca978112ca1bbdcafac231b39a23dc4da786eff8147c4e72b9807785afee48bb
+rounds 3e23e8160039594a33894f6564e1b1348bbd7a0088d42c4acb73eeaed59c009d
+";
+
+fn summed_up() -> &'static str {
+    SUMMARY
+}
+
+#[test]
+fn the_summary_of_a_sample(rt: HostRuntime) -> Result<(), Fail> {
+    let alloc = rt.alloc();
+    let ended = Final {
+        cause: Cause::Stop,
+        stop: Some(5),
+        harts: Harts::of(Vec::new(alloc)),
+        counts: Counts::of(vec![in alloc; 1u64, 2, 3, 4]?),
+        memory: Memory::of(Vec::new(alloc)),
+        sent: Bytes::of(Vec::new(alloc)),
+        time: 0,
+    };
+    let of = Summary {
+        number: 7,
+        ended: &ended,
+        log: 123,
+        recorded: b"",
+        one: b"a",
+        rounds: b"b",
+    };
+    assert_eq!(rt;
+        summary_text(alloc, &of).expect(&rt, "memory").as_slice(),
+        summed_up().as_bytes()
+    );
     Ok(())
 }

@@ -268,20 +268,21 @@ kept_are_logs w text fault s t o p name u keeps limit tells held =
     (kept_log_held w text fault s t u o p name keeps limit tells held, refl, keeps.orderly)
 
 -- what was printed of a sample, and with which status
-sample_closes : (number : ℕ) (before after : Around) (status : ℕ) (ending : Ending) → SamplesAs number ending → Closes ending before.sink after.sink status
+sample_closes : (number : ℕ) (before after : Around) (status : ℕ) (ending : Ending) → IsUntouched before.shelf after.shelf → SamplesAs number ending
+    → Closes ending before.sink after.sink status
     → IsSummedUp number before after status ⊎ ((status ≡ 3) ⊎ ((status ≡ 11) × Rose before.sink.faults after.sink.faults))
-sample_closes number before after status NoMemory is (inl (inl line)) = inr (inl line.1)
-sample_closes number before after status NoMemory is (inl (inr failed)) = inr (inl failed.1)
-sample_closes number before after status NoMemory is (inr other) = absurd (true≢false (sym other.0))
-sample_closes number before after status (Kept text false) is (inl (inl line)) =
-    inl (record { status_is = line.1; text = text.items; sample = is.0; printed = line.0 })
-sample_closes number before after status (Kept text false) is (inl (inr failed)) = inr (inr (failed.1, failed.0.faults))
-sample_closes number before after status (Kept text false) is (inr other) = absurd (true≢false (sym other.0))
-sample_closes number before after status (Kept text true) is closes = absurd (true≢false is.1)
-sample_closes number before after status ending is closes = absurd is
+sample_closes number before after status NoMemory kept is (inl (inl line)) = inr (inl line.1)
+sample_closes number before after status NoMemory kept is (inl (inr failed)) = inr (inl failed.1)
+sample_closes number before after status NoMemory kept is (inr other) = absurd (true≢false (sym other.0))
+sample_closes number before after status (Kept text false) kept is (inl (inl line)) =
+    inl (record { status_is = line.1; text = text.items; sample = is.0; printed = line.0; kept = kept })
+sample_closes number before after status (Kept text false) kept is (inl (inr failed)) = inr (inr (failed.1, failed.0.faults))
+sample_closes number before after status (Kept text false) kept is (inr other) = absurd (true≢false (sym other.0))
+sample_closes number before after status (Kept text true) kept is closes = absurd (true≢false is.1)
+sample_closes number before after status ending kept is closes = absurd is
 
 pub samples_done : SamplesAreDone
 samples_done words number before after status (Usage place, ends, closes) is = absurd (in_grammar words (Samples number) place is ends.0)
 samples_done words number before after status (ending, ends, closes) is =
-    sample_closes number before after status ending
-    (same_task words (λ b. TaskAs b before.shelf after.shelf before.sources after.sources ending) ends.0 (Samples number) ends.1 is ends.2).0 closes
+    let so = same_task words (λ b. TaskAs b before.shelf after.shelf before.sources after.sources ending) ends.0 (Samples number) ends.1 is ends.2 in
+    sample_closes number before after status ending so.1.0 so.0 closes

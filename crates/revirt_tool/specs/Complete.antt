@@ -55,8 +55,8 @@ pub record HasLog (words : List (List ℕ)) (s : SeenShelf) : Type 0 where
   pub is : task words ≡ Some (Lists name)
   pub holds : HoldsLog name s
 
--- the shelf holds such a log, which is orderly, and an image that isn't too long and breaks no rule on a board with the log's pages, and whose start is the
--- one that the log names; and the replay is done at this state
+-- the shelf holds such a log, which is orderly, and an image that isn't too long and breaks no rule on a board with the log's pages,
+-- and whose start is the one that the log names; and the replay is done at this state
 pub record HoldsReplay (w : ReplayWish) (s : SeenShelf) : Type 0 where
   pub holds : HoldsLog w.log s
   pub orderly : IsOrderly holds.log
@@ -167,6 +167,7 @@ pub record IsSummedUp (number : ℕ) (before after : Around) (status : ℕ) : Ty
   pub text : List ℕ
   pub sample : IsSample number text
   pub printed : Prints text before.sink after.sink
+  pub kept : IsUntouched before.shelf after.shelf
 
 -- of words that ask for a sample: it is told, or memory ran out, or the sink failed, with status 11 or where memory ran out
 abbrev pub SamplesAreDone : Type 0
@@ -176,7 +177,8 @@ SamplesAreDone =
     → IsSummedUp number before after status ⊎ ((status ≡ 3) ⊎ ((status ≡ 11) × Rose before.sink.faults after.sink.faults))
 
 -- any shelf that tells and holds the log that a recording kept, and the image that it was given, is such a shelf, for words that ask for
--- the replay or a trace of them; log and image are the recording's, and the replay's end is the recording's, so its dump is the recording's, and its report the one that was printed
+-- the replay or a trace of them; log and image are the recording's, and the replay's end is the recording's, so its dump is the
+-- recording's, and its report the one that was printed
 abbrev pub KeptAreReplayed : Type 0
 KeptAreReplayed =
     (w : Wish) (text : List ℕ) (fault : Bool) (s t : SeenShelf) (o p : World) (r : ReplayWish) (u : SeenShelf)

@@ -98,11 +98,16 @@ impl<G: Gate> MadeBy<G> for Leg {
 /// The hands that lend legs to workers, each at its hart's place.
 pub(crate) type Hands = Vec<Option<Hand<Leg>>>;
 
-/// The hand at a place, which is then empty.
-fn hand_at(hands: &mut Hands, place: usize) -> Option<Hand<Leg>> {
+/// The hand at a place, which is then empty. None where no hart before it may move: then its leg is made here.
+fn hand_at(
+    hands: &mut Hands,
+    untils: &[Option<u64>; PLACES],
+    place: usize,
+) -> Option<Hand<Leg>> {
+    let others = untils.iter().take(place).any(|until| until.is_some());
     match hands.get_mut(place) {
-        Some(hand) => hand.take(),
-        None => None,
+        Some(hand) if others && untils[place].is_some() => hand.take(),
+        _ => None,
     }
 }
 
@@ -175,7 +180,7 @@ pub(crate) fn legs<G: Gate>(
         hart: place as u8,
         number: numbers[place],
     };
-    let hand = hand_at(hands, place);
+    let hand = hand_at(hands, untils, place);
     let made = led(hand, leg, runs, hands, untils, gate, numbers)?;
     runs.push_reserved(made);
     Ok(())
