@@ -1,8 +1,9 @@
 //! Samples by the top call.
 
 use crate::tests::words_of;
+use crate::way_tests::CountGate;
 use crate::{Finish, revirt};
-use outside::{Asked, MemClock, MemConsole, MemShelf, MemSink, OpenGate};
+use outside::{Asked, Gate, MemClock, MemConsole, MemShelf, MemSink, OpenGate};
 use std::alloc::Global;
 use std::sync::Wait;
 use std::test::Fail;
@@ -15,10 +16,11 @@ struct Sampled {
     report: MemSink,
 }
 
-fn sample<T: Threads + Wait + Sync>(
+fn sample<T: Threads + Wait + Sync, G: Gate>(
     rt: &T,
     alloc: Global,
     sink_fails: &[u64],
+    gate: &G,
 ) -> Result<Sampled, Fail> {
     let words = words_of(alloc, "sample 7")?;
     let mut shelf = MemShelf::start(alloc, 100, &[0, 1, 2, 3])?;
@@ -31,7 +33,7 @@ fn sample<T: Threads + Wait + Sync>(
         &mut shelf,
         console,
         MemClock::start(5, 0),
-        &OpenGate,
+        gate,
         &mut report,
     );
     Ok(Sampled { status, report })
@@ -65,8 +67,11 @@ fn value<'a>(text: &'a str, name: &str) -> Option<&'a str> {
 
 #[test]
 fn a_sample_is_recorded_and_replayed_alike(rt: HostRuntime) -> Result<(), Fail> {
-    let told = sample(&rt, rt.alloc(), &[])?;
+    let gate = CountGate::start();
+    let told = sample(&rt, rt.alloc(), &[], &gate)?;
     assert_eq!(rt; told.status, 0);
+    // The recording, and one of the replays.
+    assert_eq!(rt; gate.begun(), 2);
     let Ok(text) = std::str::from_utf8(told.report.written()) else {
         panic!(rt; "a text");
     };
@@ -80,15 +85,15 @@ fn a_sample_is_recorded_and_replayed_alike(rt: HostRuntime) -> Result<(), Fail> 
 #[test]
 fn a_sample_shows_the_same_at_each_run(rt: HostRuntime) -> Result<(), Fail> {
     let alloc = rt.alloc();
-    let first = sample(&rt, alloc, &[])?;
-    let second = sample(&rt, alloc, &[])?;
+    let first = sample(&rt, alloc, &[], &OpenGate)?;
+    let second = sample(&rt, alloc, &[], &OpenGate)?;
     assert!(rt; first.report.written() == second.report.written());
     Ok(())
 }
 
 #[test]
 fn a_sample_that_cannot_be_printed_is_told(rt: HostRuntime) -> Result<(), Fail> {
-    let told = sample(&rt, rt.alloc(), &[0])?;
+    let told = sample(&rt, rt.alloc(), &[0], &OpenGate)?;
     assert_eq!(rt; told.status, 11);
     Ok(())
 }

@@ -6,6 +6,7 @@ use crate::{Finish, revirt};
 use outside::{Gate, HoldGate, MemClock, MemShelf, MemSink, OpenGate, SureConsole};
 use std::alloc::Global;
 use std::sync::Wait;
+use std::sync::atomic::{AtomicU64, Ordering};
 use std::test::Fail;
 use std::thread::Threads;
 
@@ -89,6 +90,56 @@ fn harts_move_beside_each_other(rt: HostRuntime) -> Result<(), Fail> {
         let told = tell(&rt, alloc, line, &mut shelf, &gate)?;
         assert_eq!(rt; told.status, 0);
         assert!(rt; !gate.ran_out());
+    }
+    Ok(())
+}
+
+/// A gate that counts how often hart 0 begins its first leg.
+#[derive(Drop)]
+pub(crate) struct CountGate {
+    begun: AtomicU64,
+}
+
+impl CountGate {
+    pub(crate) fn start() -> CountGate {
+        CountGate {
+            begun: AtomicU64::new(0),
+        }
+    }
+
+    pub(crate) fn begun(&self) -> u64 {
+        self.begun.load(Ordering::SeqCst)
+    }
+}
+
+impl Gate for CountGate {
+    fn pass(&self, hart: u8, leg: u64, after: bool) {
+        if hart == 0 && leg == 0 && !after {
+            let _ = self.begun.fetch_add(1, Ordering::SeqCst);
+        }
+    }
+}
+
+/// A replay in each way, and how often its harts begin a first leg on threads.
+fn legs_of_ways() -> [(&'static str, u64); 3] {
+    [
+        ("replay g l", 1),
+        ("replay g l --rounds", 1),
+        ("replay g l --one", 0),
+    ]
+}
+
+#[test]
+fn only_replays_in_rounds_pass_the_gate(rt: HostRuntime) -> Result<(), Fail> {
+    let alloc = rt.alloc();
+    let mut shelf = MemShelf::start(alloc, 100_000, &[])?;
+    shelf.hold("g", bytes_of(alloc, race_guest())?.as_slice());
+    shelf.hold("l", race_log());
+    for (line, begun) in legs_of_ways() {
+        let gate = CountGate::start();
+        let told = tell(&rt, alloc, line, &mut shelf, &gate)?;
+        assert_eq!(rt; told.status, 0);
+        assert_eq!(rt; gate.begun(), begun);
     }
     Ok(())
 }

@@ -99,15 +99,14 @@ impl<G: Gate> MadeBy<G> for Leg {
 pub(crate) type Hands = Vec<Option<Hand<Leg>>>;
 
 /// The hand at a place, which is then empty. None where no hart before it may move: then its leg is made here.
-fn hand_at(
-    hands: &mut Hands,
-    untils: &[Option<u64>; PLACES],
-    place: usize,
-) -> Option<Hand<Leg>> {
-    let others = untils.iter().take(place).any(|until| until.is_some());
+fn hand_at(hands: &mut Hands, untils: &[Option<u64>; PLACES], place: usize) -> Option<Hand<Leg>> {
+    let moves = matches!(untils.get(place), Some(Some(_)));
+    if !moves || !untils.iter().take(place).any(|until| until.is_some()) {
+        return None;
+    }
     match hands.get_mut(place) {
-        Some(hand) if others && untils[place].is_some() => hand.take(),
-        _ => None,
+        Some(hand) => hand.take(),
+        None => None,
     }
 }
 
