@@ -14,29 +14,40 @@ use std::thread::Threads;
 #[derive(Drop)]
 struct Told {
     status: u8,
+    shelf: MemShelf,
     report: MemSink,
 }
 
+/// The words of a line over a shelf with a guest and a log.
 fn tell<T: Threads + Wait + Sync, G: Gate>(
     rt: &T,
     alloc: Global,
     line: &str,
-    shelf: &mut MemShelf,
+    guest: &[u32],
+    log: &[u8],
     gate: &G,
 ) -> Result<Told, Fail> {
     let words = words_of(alloc, line)?;
+    let file = bytes_of(alloc, guest)?;
+    let mut shelf = MemShelf::start(alloc, 100_000, &[])?;
+    shelf.hold("g", file.as_slice());
+    shelf.hold("l", log);
     let mut report = MemSink::start(alloc, 10_000, &[])?;
     let Finish { status, .. } = revirt(
         rt,
         alloc,
         &words,
-        shelf,
+        &mut shelf,
         SureConsole::start(),
         MemClock::start(5, 0),
         gate,
         &mut report,
     );
-    Ok(Told { status, report })
+    Ok(Told {
+        status,
+        shelf,
+        report,
+    })
 }
 
 fn ways() -> [&'static str; 3] {
@@ -60,34 +71,37 @@ fn a_race_is_replayed_in_each_way(rt: HostRuntime) -> Result<(), Fail> {
     let alloc = rt.alloc();
     let lines = "cause limit\nhart 0 count 8 pc 80000010\nhart 1 count 8 pc 80000010";
     for line in ways() {
-        let mut shelf = MemShelf::start(alloc, 100_000, &[])?;
-        shelf.hold("g", bytes_of(alloc, race_guest())?.as_slice());
-        shelf.hold("l", race_log());
-        let told = tell(&rt, alloc, line, &mut shelf, &OpenGate)?;
+        let told = tell(&rt, alloc, line, race_guest(), race_log(), &OpenGate)?;
         assert_eq!(rt; told.status, 0);
         assert!(rt; has_lines(told.report.written(), lines));
-        assert!(rt; has_one(shelf.held("d")));
+        assert!(rt; has_one(told.shelf.held("d")));
     }
     Ok(())
 }
 
-/// A recording of two harts that stay where they are, and its replays.
-fn standing_lines() -> [&'static str; 3] {
-    [
-        "record g l --harts 2 --pages 1 --limit 4096",
-        "replay g l",
-        "replay g l --rounds",
-    ]
+/// Two harts that stay where they are.
+fn standing() -> [u32; 1] {
+    [0x0000_006F]
+}
+
+fn replays_on_threads() -> [&'static str; 2] {
+    ["replay g l", "replay g l --rounds"]
 }
 
 #[test]
 fn harts_move_beside_each_other(rt: HostRuntime) -> Result<(), Fail> {
     let alloc = rt.alloc();
-    let mut shelf = MemShelf::start(alloc, 100_000, &[])?;
-    shelf.hold("g", bytes_of(alloc, &[0x0000_006F])?.as_slice());
-    for line in standing_lines() {
+    let gate = HoldGate::start(0);
+    let line = "record g l --harts 2 --pages 1 --limit 4096";
+    let recorded = tell(&rt, alloc, line, &standing(), &[], &gate)?;
+    assert_eq!(rt; recorded.status, 0);
+    assert!(rt; !gate.ran_out());
+    let Some(log) = recorded.shelf.held("l") else {
+        panic!(rt; "a log");
+    };
+    for line in replays_on_threads() {
         let gate = HoldGate::start(0);
-        let told = tell(&rt, alloc, line, &mut shelf, &gate)?;
+        let told = tell(&rt, alloc, line, &standing(), log, &gate)?;
         assert_eq!(rt; told.status, 0);
         assert!(rt; !gate.ran_out());
     }
@@ -132,12 +146,9 @@ fn legs_of_ways() -> [(&'static str, u64); 3] {
 #[test]
 fn only_replays_in_rounds_pass_the_gate(rt: HostRuntime) -> Result<(), Fail> {
     let alloc = rt.alloc();
-    let mut shelf = MemShelf::start(alloc, 100_000, &[])?;
-    shelf.hold("g", bytes_of(alloc, race_guest())?.as_slice());
-    shelf.hold("l", race_log());
     for (line, begun) in legs_of_ways() {
         let gate = CountGate::start();
-        let told = tell(&rt, alloc, line, &mut shelf, &gate)?;
+        let told = tell(&rt, alloc, line, race_guest(), race_log(), &gate)?;
         assert_eq!(rt; told.status, 0);
         assert_eq!(rt; gate.begun(), begun);
     }
