@@ -74,7 +74,8 @@ module _ (log : Log) (image : Image) (hart from to : ℕ) (steps : List Step) wh
   -- where an order is the least one, by the steps of a replay, its harts, and where it begins
   abbrev Least : (ℕ → Replay FlatState → Option (Replay FlatState × Option (List Step))) → ℕ → Replay FlatState → Type 0
   Least go harts first =
-      (made : List (ℕ × Option (List Step))) × ((end : Replay FlatState) × IsLeast go harts first made end × (steps ≡ moves_between from to (moves_of log hart made)))
+      (made : List (ℕ × Option (List Step))) × ((end : Replay FlatState)
+      × IsLeast go harts first made end × (steps ≡ moves_between from to (moves_of log hart made)))
 
   goes_alike : step (board (unit_of log)) (log_without_room log) ≡ step (board (unit_of log)) log
   goes_alike = (replays_see_no_room (unit_of log) log).steps_are

@@ -1,5 +1,7 @@
+use crate::replay_tests::is_replayed;
 use crate::tests::{
-    Row, bytes_of, comes_true, has_lines, plain_row, race_guest, round, sends, serve, smallest,
+    Row, bytes_of, comes_true, has_lines, has_word, plain_row, race_guest, round, sends, serve,
+    smallest,
 };
 use std::alloc::Global;
 use std::sync::Wait;
@@ -62,6 +64,14 @@ fn crews() -> [Row; 4] {
 }
 
 #[test]
+fn runs_of_several_harts_are_replayed(rt: HostRuntime) -> Result<(), Fail> {
+    for row in crews() {
+        assert!(rt; is_replayed(&rt, rt.alloc(), &row)?);
+    }
+    Ok(())
+}
+
+#[test]
 fn several_harts_are_recorded(rt: HostRuntime) -> Result<(), Fail> {
     for row in crews() {
         assert!(rt; comes_true(&rt, rt.alloc(), &row)?);
@@ -92,14 +102,6 @@ fn is_long(held: Option<&[u8]>, length: usize) -> bool {
     }
 }
 
-/// Whether a dump has these bytes behind the first page.
-fn has_word(dump: Option<&[u8]>, word: &[u8]) -> bool {
-    match dump {
-        Some(bytes) => bytes.get(4096..4100) == Some(word),
-        None => false,
-    }
-}
-
 /// Whether a run to the limit leaves this word, and a log of this length.
 fn leaves<T: Threads + Wait + Sync>(
     rt: &T,
@@ -124,6 +126,7 @@ fn additions_of_two_harts_come_to_their_sum(rt: HostRuntime) -> Result<(), Fail>
     let mut racing = plain_row(words, racing_sum_guest(), 0, "cause limit");
     racing.length = 441;
     assert!(rt; leaves(&rt, rt.alloc(), &racing, &[0xe8, 0x03, 0, 0])?);
+    assert!(rt; is_replayed(&rt, rt.alloc(), &racing)?);
     Ok(())
 }
 

@@ -3,9 +3,12 @@
 ghost use Rattle.std.specs.Prelude.{◌≡◌, ◌∷◌, [], IfOk, codes};
 ghost use Rattle.command_words.specs.Texts.{texts};
 
-use crate::tests::{bytes_of, first_of, smallest, smallest_log, words_of};
+use crate::tests::{
+    Told, bytes_of, devices_with, first_of, plain_row as recording, serve, smallest, smallest_log,
+    tell,
+};
 use crate::{Finish, revirt};
-use outside::{MemClock, MemShelf, MemSink, OpenGate, SureConsole, SureShelf, SureSink};
+use outside::{MemClock, OpenGate, SureConsole, SureShelf, SureSink};
 use std::alloc::Global;
 use std::sync::Wait;
 use std::test::Fail;
@@ -31,14 +34,6 @@ fn plain_row<'a>(log: &'a [u8], status: u8, text: &'static str) -> Row<'a> {
     }
 }
 
-/// What a listing came to.
-#[derive(Drop)]
-struct Listed {
-    status: u8,
-    shelf: MemShelf,
-    report: MemSink,
-}
-
 /// Lists the log `l`, where there is one.
 fn list<T: Threads + Wait + Sync>(
     rt: &T,
@@ -46,28 +41,9 @@ fn list<T: Threads + Wait + Sync>(
     log: Option<&[u8]>,
     shelf_fails: &[u64],
     sink_fails: &[u64],
-) -> Result<Listed, Fail> {
-    let words = words_of(alloc, "inspect l")?;
-    let mut shelf = MemShelf::start(alloc, 1_000, shelf_fails)?;
-    if let Some(log) = log {
-        shelf.hold("l", log);
-    }
-    let mut report = MemSink::start(alloc, 10_000, sink_fails)?;
-    let Finish { status, .. } = revirt(
-        rt,
-        alloc,
-        &words,
-        &mut shelf,
-        SureConsole::start(),
-        MemClock::start(5, 0),
-        &OpenGate,
-        &mut report,
-    );
-    Ok(Listed {
-        status,
-        shelf,
-        report,
-    })
+) -> Result<Told, Fail> {
+    let devices = devices_with(alloc, &[], log, shelf_fails, sink_fails)?;
+    tell(rt, alloc, "inspect l", devices, &OpenGate)
 }
 
 fn comes_true<T: Threads + Wait + Sync>(rt: &T, alloc: Global, row: Row) -> Result<bool, Fail> {
@@ -237,49 +213,16 @@ fn a_log_that_is_not_there_is_a_shelf_fault(rt: HostRuntime) -> Result<(), Fail>
     Ok(())
 }
 
-/// Records the guest `g` and then lists its log: the statuses of both, and what the listing printed.
-fn record_and_list<T: Threads + Wait + Sync>(
-    rt: &T,
-    alloc: Global,
-    file: &[u8],
-) -> Result<(u8, u8, MemSink), Fail> {
-    let recording = words_of(alloc, "record g l --pages 1 --limit 100")?;
-    let listing = words_of(alloc, "inspect l")?;
-    let mut shelf = MemShelf::start(alloc, 10_000, &[])?;
-    shelf.hold("g", file);
-    let mut report = MemSink::start(alloc, 10_000, &[])?;
-    let mut listed = MemSink::start(alloc, 10_000, &[])?;
-    let first = revirt(
-        rt,
-        alloc,
-        &recording,
-        &mut shelf,
-        SureConsole::start(),
-        MemClock::start(5, 0),
-        &OpenGate,
-        &mut report,
-    );
-    let second = revirt(
-        rt,
-        alloc,
-        &listing,
-        &mut shelf,
-        SureConsole::start(),
-        MemClock::start(5, 0),
-        &OpenGate,
-        &mut listed,
-    );
-    Ok((first.status, second.status, listed))
-}
-
 #[test]
 fn what_was_recorded_is_listed(rt: HostRuntime) -> Result<(), Fail> {
     let alloc = rt.alloc();
     let file = bytes_of(alloc, smallest())?;
-    let (recorded, status, listed) = record_and_list(&rt, alloc, file.as_slice())?;
-    assert_eq!(rt; recorded, 0);
-    assert_eq!(rt; status, 0);
-    assert_eq!(rt; listed.written(), smallest_listing().as_bytes());
+    let row = recording("record g l --pages 1 --limit 100", smallest(), 0, "");
+    let recorded = serve(&rt, alloc, &row, file.as_slice())?;
+    let listed = list(&rt, alloc, recorded.shelf.held("l"), &[], &[])?;
+    assert_eq!(rt; recorded.status, 0);
+    assert_eq!(rt; listed.status, 0);
+    assert_eq!(rt; listed.report.written(), smallest_listing().as_bytes());
     Ok(())
 }
 

@@ -2,54 +2,42 @@
 
 use crate::listing_tests::{race_log, twice_numbered_log};
 use crate::tests::{
-    Row, bytes_of, devices, failing_ends, first_of, full_row, has_lines, input_row, limits,
-    race_guest, round, serve, smallest, smallest_log, smallest_report, words_of,
+    Row, Told, bytes_of, devices, devices_with, failing_ends, first_of, full_row, has_lines,
+    has_word, input_row, limits, race_guest, round, serve, smallest, smallest_log, smallest_report,
+    tell,
 };
-use crate::{Finish, revirt};
-use outside::{MemClock, MemShelf, MemSink, OpenGate, SureConsole};
+use outside::OpenGate;
 use std::alloc::Global;
 use std::sync::Wait;
 use std::test::Fail;
 use std::thread::Threads;
 
-/// What a replay came to.
-#[derive(Drop)]
-struct Replayed {
-    status: u8,
-    shelf: MemShelf,
-    report: MemSink,
+/// A replay in each way, with its dump.
+fn ways() -> [&'static str; 3] {
+    [
+        "replay g l --dump d",
+        "replay g l --rounds --dump d",
+        "replay g l --one --dump d",
+    ]
 }
 
-/// Replays a log over a guest, and keeps the dump.
+fn on_one_thread() -> &'static str {
+    "replay g l --one --dump d"
+}
+
+/// Replays a log over a guest.
 fn replay<T: Threads + Wait + Sync>(
     rt: &T,
     alloc: Global,
+    line: &str,
     guest: &[u32],
     log: &[u8],
     shelf_fails: &[u64],
     sink_fails: &[u64],
-) -> Result<Replayed, Fail> {
-    let words = words_of(alloc, "replay g l --one --dump d")?;
+) -> Result<Told, Fail> {
     let file = bytes_of(alloc, guest)?;
-    let mut shelf = MemShelf::start(alloc, 100_000, shelf_fails)?;
-    shelf.hold("g", file.as_slice());
-    shelf.hold("l", log);
-    let mut report = MemSink::start(alloc, 10_000, sink_fails)?;
-    let Finish { status, .. } = revirt(
-        rt,
-        alloc,
-        &words,
-        &mut shelf,
-        SureConsole::start(),
-        MemClock::start(5, 0),
-        &OpenGate,
-        &mut report,
-    );
-    Ok(Replayed {
-        status,
-        shelf,
-        report,
-    })
+    let devices = devices_with(alloc, file.as_slice(), Some(log), shelf_fails, sink_fails)?;
+    tell(rt, alloc, line, devices, &OpenGate)
 }
 
 /// Whether the replay of a log over a guest is refused with this status and this line, and keeps nothing; so too where
@@ -57,14 +45,15 @@ fn replay<T: Threads + Wait + Sync>(
 fn is_refused<T: Threads + Wait + Sync>(
     rt: &T,
     alloc: Global,
+    words: &str,
     guest: &[u32],
     log: &[u8],
     status: u8,
     line: &str,
 ) -> Result<bool, Fail> {
-    let told = replay(rt, alloc, guest, log, &[], &[])?;
+    let told = replay(rt, alloc, words, guest, log, &[], &[])?;
     let next: &[u64] = if status == 6 { &[1] } else { &[2] };
-    let untold = replay(rt, alloc, guest, log, next, &[0])?;
+    let untold = replay(rt, alloc, words, guest, log, next, &[0])?;
     let kept = told.shelf.held("d").is_some() || untold.shelf.held("d").is_some();
     let said = told.report.written() == line.as_bytes();
     Ok(!kept && said && told.status == status && untold.status == status)
@@ -159,20 +148,28 @@ fn changed_log(alloc: Global, change: &Change) -> Result<Vec<u8>, Fail> {
     Ok(bytes)
 }
 
+/// Whether a replay of the changed log comes to what is told of it, in each way.
 fn refuses_change<T: Threads + Wait + Sync>(
     rt: &T,
     alloc: Global,
     change: &Change,
 ) -> Result<bool, Fail> {
     let log = changed_log(alloc, change)?;
-    is_refused(
-        rt,
-        alloc,
-        smallest(),
-        log.as_slice(),
-        change.status,
-        change.text,
-    )
+    let bytes = log.as_slice();
+    for words in ways() {
+        if !is_refused(
+            rt,
+            alloc,
+            words,
+            smallest(),
+            bytes,
+            change.status,
+            change.text,
+        )? {
+            return Ok(false);
+        }
+    }
+    Ok(true)
 }
 
 fn takes_change<T: Threads + Wait + Sync>(
@@ -181,8 +178,13 @@ fn takes_change<T: Threads + Wait + Sync>(
     change: &Change,
 ) -> Result<bool, Fail> {
     let log = changed_log(alloc, change)?;
-    let replayed = replay(rt, alloc, smallest(), log.as_slice(), &[], &[])?;
-    Ok(replayed.status == change.status && has_lines(replayed.report.written(), change.text))
+    for words in ways() {
+        let told = replay(rt, alloc, words, smallest(), log.as_slice(), &[], &[])?;
+        if told.status != change.status || !has_lines(told.report.written(), change.text) {
+            return Ok(false);
+        }
+    }
+    Ok(true)
 }
 
 /// The smallest log with other bits in its poll.
@@ -244,6 +246,7 @@ fn refuses_cut<T: Threads + Wait + Sync>(rt: &T, alloc: Global, many: usize) -> 
     is_refused(
         rt,
         alloc,
+        on_one_thread(),
         smallest(),
         first_of(&log, many),
         6,
@@ -301,12 +304,23 @@ fn crossed_log() -> &'static [u8] {
 fn logs_of_other_guests_and_of_two_harts_are_refused(rt: HostRuntime) -> Result<(), Fail> {
     let alloc = rt.alloc();
     let smallest_bytes = smallest_log();
-    assert!(rt; is_refused(&rt, alloc, round(), &smallest_bytes, 10, other_guest())?);
+    let words = on_one_thread();
+    assert!(rt;
+        is_refused(
+            &rt,
+            alloc,
+            words,
+            round(),
+            &smallest_bytes,
+            10,
+            other_guest()
+        )?
+    );
     let numbers = "disorderly: rule O5 hart 1 entry 0\n";
     let log = named(alloc, twice_numbered_log())?;
-    assert!(rt; is_refused(&rt, alloc, smallest(), log.as_slice(), 7, numbers)?);
+    assert!(rt; is_refused(&rt, alloc, words, smallest(), log.as_slice(), 7, numbers)?);
     let crossed = "disorderly: rule O9 hart 0 entry 0\n";
-    assert!(rt; is_refused(&rt, alloc, smallest(), crossed_log(), 7, crossed)?);
+    assert!(rt; is_refused(&rt, alloc, words, smallest(), crossed_log(), 7, crossed)?);
     Ok(())
 }
 
@@ -335,53 +349,70 @@ fn cut_file() -> &'static [u32] {
 #[test]
 fn the_first_refusal_is_told(rt: HostRuntime) -> Result<(), Fail> {
     let alloc = rt.alloc();
+    let words = on_one_thread();
     let large = vec![in alloc; 0u32; 1025]?;
     // an image that breaks a rule, before the order of the log; and another start, before its order
     let rule = "image refused: I2\n";
-    assert!(rt; is_refused(&rt, alloc, large.as_slice(), twice_numbered_log(), 2, rule)?);
-    let cut = "image refused: I1\n";
-    assert!(rt; is_refused(&rt, alloc, cut_file(), &smallest_log(), 2, cut)?);
     assert!(rt;
         is_refused(
             &rt,
             alloc,
+            words,
+            large.as_slice(),
+            twice_numbered_log(),
+            2,
+            rule
+        )?
+    );
+    let cut = "image refused: I1\n";
+    assert!(rt; is_refused(&rt, alloc, words, cut_file(), &smallest_log(), 2, cut)?);
+    let start = unnamed_start();
+    assert!(rt;
+        is_refused(
+            &rt,
+            alloc,
+            words,
             smallest(),
             twice_numbered_log(),
             10,
-            unnamed_start()
+            start
         )?
     );
     Ok(())
 }
 
-/// Whether the page behind the first one begins with this word.
-fn has_word(dump: Option<&[u8]>, word: &[u8]) -> bool {
-    match dump {
-        Some(bytes) => bytes.len() == 8192 && bytes.get(4096..4100) == Some(word),
-        None => false,
-    }
-}
-
 #[test]
-fn a_race_is_replayed(rt: HostRuntime) -> Result<(), Fail> {
-    let replayed = replay(&rt, rt.alloc(), race_guest(), race_log(), &[], &[])?;
+fn a_race_is_replayed_in_each_way(rt: HostRuntime) -> Result<(), Fail> {
+    let alloc = rt.alloc();
     let lines = "cause limit\nhart 0 count 8 pc 80000010\nhart 1 count 8 pc 80000010";
-    assert_eq!(rt; replayed.status, 0);
-    assert!(rt; has_lines(replayed.report.written(), lines));
-    assert!(rt; has_word(replayed.shelf.held("d"), &[1, 0, 0, 0]));
+    for words in ways() {
+        let told = replay(&rt, alloc, words, race_guest(), race_log(), &[], &[])?;
+        assert_eq!(rt; told.status, 0);
+        assert!(rt; has_lines(told.report.written(), lines));
+        assert!(rt; has_word(told.shelf.held("d"), &[1, 0, 0, 0]));
+    }
     Ok(())
 }
 
-/// Whether what a row records is replayed to the same report and, where the row asks for it, the same dump.
-fn is_replayed<T: Threads + Wait + Sync>(rt: &T, alloc: Global, row: &Row) -> Result<bool, Fail> {
+/// Whether what a row records is replayed in each way to the same report and, where the row asks for it, the same dump.
+pub(crate) fn is_replayed<T: Threads + Wait + Sync>(
+    rt: &T,
+    alloc: Global,
+    row: &Row,
+) -> Result<bool, Fail> {
     let file = bytes_of(alloc, row.guest)?;
     let ran = serve(rt, alloc, row, file.as_slice())?;
     let Some(log) = ran.shelf.held("l") else {
         return Ok(false);
     };
-    let replayed = replay(rt, alloc, row.guest, log, &[], &[])?;
-    let dumps = ran.shelf.held("d").is_none() || ran.shelf.held("d") == replayed.shelf.held("d");
-    Ok(dumps && replayed.status == 0 && replayed.report.written() == ran.report.written())
+    for words in ways() {
+        let told = replay(rt, alloc, words, row.guest, log, &[], &[])?;
+        let dumps = ran.shelf.held("d").is_none() || ran.shelf.held("d") == told.shelf.held("d");
+        if !dumps || told.status != 0 || told.report.written() != ran.report.written() {
+            return Ok(false);
+        }
+    }
+    Ok(true)
 }
 
 #[test]
@@ -424,7 +455,15 @@ fn shelf_calls() -> [&'static [u64]; 6] {
 }
 
 fn fails_at<T: Threads + Wait + Sync>(rt: &T, alloc: Global, fails: &[u64]) -> Result<bool, Fail> {
-    let replayed = replay(rt, alloc, smallest(), &smallest_log(), fails, &[])?;
+    let replayed = replay(
+        rt,
+        alloc,
+        on_one_thread(),
+        smallest(),
+        &smallest_log(),
+        fails,
+        &[],
+    )?;
     let kept = replayed.shelf.held("d").is_some();
     Ok(!kept && replayed.status == 4 && replayed.report.written() == b"shelf fault\n".as_slice())
 }
@@ -435,7 +474,8 @@ fn each_failing_call_of_a_replay_is_told(rt: HostRuntime) -> Result<(), Fail> {
     for fails in shelf_calls() {
         assert!(rt; fails_at(&rt, alloc, fails)?);
     }
-    let unprinted = replay(&rt, alloc, smallest(), &smallest_log(), &[], &[0])?;
+    let words = on_one_thread();
+    let unprinted = replay(&rt, alloc, words, smallest(), &smallest_log(), &[], &[0])?;
     assert_eq!(rt; unprinted.status, 11);
     Ok(())
 }

@@ -1,42 +1,23 @@
 //! Samples by the top call.
 
-use crate::tests::words_of;
+use crate::tests::{Told, devices_with, tell};
 use crate::way_tests::CountGate;
-use crate::{Finish, revirt};
-use outside::{Asked, Gate, MemClock, MemConsole, MemShelf, MemSink, OpenGate};
+use outside::{Asked, Gate, MemConsole, OpenGate};
 use std::alloc::Global;
 use std::sync::Wait;
 use std::test::Fail;
 use std::thread::Threads;
 
-/// What a sample came to.
-#[derive(Drop)]
-struct Sampled {
-    status: u8,
-    report: MemSink,
-}
-
+/// A sample over a shelf and a console that fail at their first calls.
 fn sample<T: Threads + Wait + Sync, G: Gate>(
     rt: &T,
     alloc: Global,
     sink_fails: &[u64],
     gate: &G,
-) -> Result<Sampled, Fail> {
-    let words = words_of(alloc, "sample 7")?;
-    let mut shelf = MemShelf::start(alloc, 100, &[0, 1, 2, 3])?;
-    let mut report = MemSink::start(alloc, 10_000, sink_fails)?;
-    let console = MemConsole::start(alloc, &[], Asked::End, 100, &[0, 1, 2, 3])?;
-    let Finish { status, .. } = revirt(
-        rt,
-        alloc,
-        &words,
-        &mut shelf,
-        console,
-        MemClock::start(5, 0),
-        gate,
-        &mut report,
-    );
-    Ok(Sampled { status, report })
+) -> Result<Told, Fail> {
+    let mut devices = devices_with(alloc, &[], None, &[0, 1, 2, 3], sink_fails)?;
+    devices.console = MemConsole::start(alloc, &[], Asked::End, 100, &[0, 1, 2, 3])?;
+    tell(rt, alloc, "sample 7", devices, gate)
 }
 
 /// Whether each line begins as the sample's lines do, in their order, and there are no others.

@@ -5,7 +5,8 @@ use crate::{Finish, revirt};
 use log_entry::{Entry, Log};
 use log_format::read_log;
 use outside::{
-    Asked, MemClock, MemConsole, MemShelf, MemSink, OpenGate, SureConsole, SureShelf, SureSink,
+    Asked, Gate, MemClock, MemConsole, MemShelf, MemSink, OpenGate, SureConsole, SureShelf,
+    SureSink,
 };
 use rv_words::{Input, Mode};
 use std::alloc::Global;
@@ -266,31 +267,64 @@ pub(crate) fn words_of(alloc: Global, line: &str) -> Result<Vec<String>, Fail> {
     Ok(words)
 }
 
-/// What a run came to.
+/// What a command runs over.
 #[derive(Drop)]
-pub(crate) struct Ran {
-    status: u8,
+pub(crate) struct Devices {
+    pub shelf: MemShelf,
+    pub console: MemConsole,
+    clock: MemClock,
+    report: MemSink,
+}
+
+/// Devices that know of nothing but these files, with the numbers of the calls of shelf and sink that fail.
+pub(crate) fn devices_with(
+    alloc: Global,
+    guest: &[u8],
+    log: Option<&[u8]>,
+    shelf_fails: &[u64],
+    sink_fails: &[u64],
+) -> Result<Devices, Fail> {
+    let mut shelf = MemShelf::start(alloc, 100_000, shelf_fails)?;
+    shelf.hold("g", guest);
+    if let Some(log) = log {
+        shelf.hold("l", log);
+    }
+    Ok(Devices {
+        shelf,
+        console: MemConsole::start(alloc, &[], Asked::End, 100, &[])?,
+        clock: MemClock::start(5, 0),
+        report: MemSink::start(alloc, 10_000, sink_fails)?,
+    })
+}
+
+/// What a command came to.
+#[derive(Drop)]
+pub(crate) struct Told {
+    pub status: u8,
     pub shelf: MemShelf,
     pub report: MemSink,
     console: MemConsole,
 }
 
-pub(crate) fn serve<T: Threads + Wait + Sync>(
+/// Runs the words of a line.
+pub(crate) fn tell<T: Threads + Wait + Sync, G: Gate>(
     rt: &T,
     alloc: Global,
-    row: &Row,
-    file: &[u8],
-) -> Result<Ran, Fail> {
-    let words = words_of(alloc, row.line)?;
-    let mut shelf = MemShelf::start(alloc, 100_000, row.shelf_fails)?;
-    shelf.hold("g", file);
-    let mut report = MemSink::start(alloc, 10_000, row.sink_fails)?;
-    let console = MemConsole::start(alloc, row.answers, Asked::End, 100, row.console_fails)?;
-    let clock = MemClock::start(row.time, 0);
+    line: &str,
+    devices: Devices,
+    gate: &G,
+) -> Result<Told, Fail> {
+    let words = words_of(alloc, line)?;
+    let Devices {
+        mut shelf,
+        console,
+        clock,
+        mut report,
+    } = devices;
     let Finish {
         status,
         console,
-        clock: _,
+        ..
     } = revirt(
         rt,
         alloc,
@@ -298,15 +332,27 @@ pub(crate) fn serve<T: Threads + Wait + Sync>(
         &mut shelf,
         console,
         clock,
-        &OpenGate,
+        gate,
         &mut report,
     );
-    Ok(Ran {
+    Ok(Told {
         status,
         shelf,
         report,
         console,
     })
+}
+
+pub(crate) fn serve<T: Threads + Wait + Sync>(
+    rt: &T,
+    alloc: Global,
+    row: &Row,
+    file: &[u8],
+) -> Result<Told, Fail> {
+    let mut devices = devices_with(alloc, file, None, row.shelf_fails, row.sink_fails)?;
+    devices.console = MemConsole::start(alloc, row.answers, Asked::End, 100, row.console_fails)?;
+    devices.clock = MemClock::start(row.time, 0);
+    tell(rt, alloc, row.line, devices, &OpenGate)
 }
 
 /// Whether a text has all these lines.
@@ -472,7 +518,7 @@ memory 6ca3a82c26311c7eb9f88a0d9f99ed3faf6f8270f5d354205603240cb02f7c16
 "
 }
 
-fn is_kept_whole(ran: &Ran) -> bool {
+fn is_kept_whole(ran: &Told) -> bool {
     let log = smallest_log();
     ran.shelf.held("l") == Some(log.as_slice())
         && ran.report.written() == smallest_report().as_bytes()
@@ -527,6 +573,14 @@ fn a_console_that_fails_has_taken_what_the_dump_says(rt: HostRuntime) -> Result<
     assert_eq!(rt; ran.console.taken(), b"AA".as_slice());
     assert!(rt; is_dump(ran.shelf.held("d"), file.as_slice(), b"AA"));
     Ok(())
+}
+
+/// Whether the second page of a dump begins with this word.
+pub(crate) fn has_word(dump: Option<&[u8]>, word: &[u8]) -> bool {
+    match dump {
+        Some(bytes) => bytes.get(4096..4100) == Some(word),
+        None => false,
+    }
 }
 
 /// The start digest of JAL to itself on a board of one page.
@@ -665,22 +719,12 @@ fn a_full_log_ends_the_run(rt: HostRuntime) -> Result<(), Fail> {
 fn an_image_that_is_too_long_is_refused(rt: HostRuntime) -> Result<(), Fail> {
     let alloc = rt.alloc();
     let file = vec![in alloc; 0u8; 67_108_865]?;
-    let words = words_of(alloc, "record g l")?;
-    let mut shelf = MemShelf::start(alloc, 67_108_866, &[])?;
-    assert!(rt; shelf.hold("g", file.as_slice()));
-    let mut report = MemSink::start(alloc, 100, &[])?;
-    let Finish { status, .. } = revirt(
-        &rt,
-        alloc,
-        &words,
-        &mut shelf,
-        SureConsole::start(),
-        MemClock::start(5, 0),
-        &OpenGate,
-        &mut report,
-    );
-    assert_eq!(rt; status, 9);
-    assert_eq!(rt; report.written(), b"too long: image\n".as_slice());
+    let mut devices = devices_with(alloc, &[], None, &[], &[])?;
+    devices.shelf = MemShelf::start(alloc, 67_108_866, &[])?;
+    assert!(rt; devices.shelf.hold("g", file.as_slice()));
+    let told = tell(&rt, alloc, "record g l", devices, &OpenGate)?;
+    assert_eq!(rt; told.status, 9);
+    assert_eq!(rt; told.report.written(), b"too long: image\n".as_slice());
     Ok(())
 }
 

@@ -2,10 +2,9 @@
 
 use crate::replay_tests::changed_poll;
 use crate::tests::{
-    Row, bytes_of, devices, input_row, limits, serve, smallest, smallest_log, words_of,
+    Row, bytes_of, devices, devices_with, input_row, limits, serve, smallest, smallest_log, tell,
 };
-use crate::{Finish, revirt};
-use outside::{MemClock, MemShelf, MemSink, OpenGate, SureConsole};
+use outside::OpenGate;
 use std::alloc::Global;
 use std::sync::Wait;
 use std::test::Fail;
@@ -22,23 +21,10 @@ fn comes_to<T: Threads + Wait + Sync>(
     status: u8,
     text: &str,
 ) -> Result<bool, Fail> {
-    let words = words_of(alloc, line)?;
     let file = bytes_of(alloc, guest)?;
-    let mut shelf = MemShelf::start(alloc, 100_000, &[])?;
-    shelf.hold("g", file.as_slice());
-    shelf.hold("l", log);
-    let mut report = MemSink::start(alloc, 10_000, sink_fails)?;
-    let finish = revirt(
-        rt,
-        alloc,
-        &words,
-        &mut shelf,
-        SureConsole::start(),
-        MemClock::start(5, 0),
-        &OpenGate,
-        &mut report,
-    );
-    Ok(finish.status == status && report.written() == text.as_bytes())
+    let devices = devices_with(alloc, file.as_slice(), Some(log), &[], sink_fails)?;
+    let told = tell(rt, alloc, line, devices, &OpenGate)?;
+    Ok(told.status == status && told.report.written() == text.as_bytes())
 }
 
 fn smallest_trace() -> &'static str {

@@ -1,4 +1,4 @@
--- The numbers of harts (docs/machine.md).
+-- The numbers of harts (docs/board.md, "Control and status registers").
 use Rattle.std.specs.Prelude.{ℕ, ◌≡◌, slice_get, Some}
 use Rattle.rv_hart.specs.State.{Hart}
 use Rattle.flat_machine.specs.State.{FlatState}

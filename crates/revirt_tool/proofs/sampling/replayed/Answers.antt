@@ -4,7 +4,8 @@ use Rattle.revirt_tool.proofs.sampling.replayed.Goals as goal
 
 pub no_memory_in-requires : goal.no_memory_in-requires
 no_memory_in-requires g c =
-    no_memory_alone c.args.image.now c.requires.spelled.0 c.args.bytes.now c.requires.spelled.1 c.in-Ok.log c.in-Ok.ensures.answer c.in-Err.ending c.in-Err.ensures
+    no_memory_alone c.args.image.now c.requires.spelled.0 c.args.bytes.now c.requires.spelled.1
+    c.in-Ok.log c.in-Ok.ensures.answer c.in-Err.ending c.in-Err.ensures
 
 pub returns-in-Ok-outcome_of : goal.returns-in-Ok-outcome_of
 returns-in-Ok-outcome_of g c =

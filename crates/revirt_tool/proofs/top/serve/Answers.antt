@@ -37,7 +37,8 @@ record-requires-clause-names g c = λ _ _. let x = c.in-Ok-Record in (subst IsAl
 pub returns-in-Ok-Record-clause-ends : goal.returns-in-Ok-Record-clause-ends
 returns-in-Ok-Record-clause-ends g c =
     let x = c.in-Ok-Record in
-    ends_as (texts c.args.words.now) (wish_by x.request) _ _ _ _ c.record.result.ending (x.ensures.task ∙ ap (λ a. Some (task_by a)) x.field-0-is) c.record.ensures.records
+    ends_as (texts c.args.words.now) (wish_by x.request) _ _ _ _ c.record.result.ending
+    (x.ensures.task ∙ ap (λ a. Some (task_by a)) x.field-0-is) c.record.ensures.records
 
 pub returns-in-Ok-Record-clause-as_handed_in : goal.returns-in-Ok-Record-clause-as_handed_in
 returns-in-Ok-Record-clause-as_handed_in g c = λ asks_none.
