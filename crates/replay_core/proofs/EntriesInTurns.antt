@@ -1,14 +1,13 @@
 -- The entries that a hart makes in its turn.
-use Rattle.std.proofs.Common.{◌≡◌, ◌≢◌, ℕ, zero, suc, ◌+◌, ◌<◌, ◌≤◌, ◌==◌, not, Bool, true, false, true≢false, List, [], ◌∷◌, length, Option, Some, None}
-use Rattle.std.proofs.Common.{is_some, slice_index, refl, sym, ap, ap₂, ◌∙◌, subst, arith, if◌then◌else◌}
+use Rattle.std.proofs.Common.{◌≡◌, ◌≢◌, ℕ, zero, suc, ◌+◌, ◌<◌, ◌≤◌, List, [], ◌∷◌, length, Option, Some, None}
+use Rattle.std.proofs.Common.{is_some, slice_index, refl, sym, ap, ap₂, ◌∙◌, subst, arith}
 use Rattle.std.specs.Option.{option_map_or}
-use Rattle.std.proofs.lemmas.Bool.{eq-eqb}
 use Rattle.std.proofs.lemmas.Option.{get_or_from_slice_get, slice_get_within}
 use Rattle.elf_image.specs.Image.{Image}
 use Rattle.rv_words.specs.declared.shared.Mode.{Mode}
 use Rattle.log_entry.specs.declared.log.Entry.{Entry}
 use Rattle.log_entry.specs.declared.log.Log.{Log}
-use Rattle.log_entry.specs.Parts.{count_of, is_end, unit_of}
+use Rattle.log_entry.specs.Parts.{count_of, unit_of}
 use Rattle.order_rules.specs.Places.{stream}
 use Rattle.order_rules.specs.Cursor.{first_left}
 use Rattle.flat_machine.specs.State.{FlatState}
@@ -20,7 +19,7 @@ use Rattle.replay_model.specs.Items.{verdict_on}
 use Rattle.run_model.specs.Run.{Run}
 use Rattle.run_model.specs.Agreement.{Agrees, IsAhead}
 use Rattle.run_model.specs.declared.asked.Ahead.TheVariants as ahead
-use Rattle.replay_law.proofs.Progress.{going_lasts}
+use Rattle.replay_law.proofs.Progress.{going_lasts, move_means}
 use Rattle.replay_law.proofs.Timely.{reached_goes}
 use Rattle.replay_law.proofs.Verdicts.{judge}
 use Rattle.replay_parts.specs.Parts.{until_by}
@@ -73,17 +72,6 @@ moves_below b r h less = by (first_left b.log b.cursor h) less where
   by None l = refl
   by (Some e) l = move_next r.count e l
 
-abbrev is_move : Item → Bool
-is_move Move = true
-is_move item = false
-
-due : (n : ℕ) (e : Entry) → item_at n (Some e) ≡ Move → count_of e ≢ n
-due n e is same = by (count_of e == n) (is_end e) (eq-eqb (count_of e) n same) is where
-  by : (a b : Bool) → a ≡ true → (if not a then Move else if b then Ended else Makes e) ≡ Move → ⊥
-  by false b t f = true≢false (sym t)
-  by true true t f = true≢false (sym (ap is_move f))
-  by true false t f = true≢false (sym (ap is_move f))
-
 -- and at that count none
 pub none_there : (image : Image) (b : Position) (r : Run) (h : ℕ) (s : Replay FlatState) → Stands image b s → Agrees r h s
     → until_by r.count (first_left b.log b.cursor h) ≤ r.count → item_of b r h ≢ Move
@@ -93,7 +81,7 @@ none_there image b r h s st a past is =
     let own : slice_index s.flat.counts h ≡ r.count = get_or_from_slice_get s.flat.counts h r.count 0 a.count in
     let until : until_by r.count (first_left b.log b.cursor h) ≡ count_of x.entry = ap (until_by r.count) first in
     let count = x.count in
-    due r.count x.entry (sym (ap (item_at r.count) first) ∙ is) (omega (arith, past, own, until, count))
+    move_means r.count x.entry (sym (ap (item_at r.count) first) ∙ is) (omega (arith, past, own, until, count))
 
 -- what comes of an item that is no move changes the state where it is an entry that can be made
 entry_after : (log : Log) (h : ℕ) (s : Replay FlatState) (item : Item) (v : Verdict) (answer : Went) → next_item (board (unit_of log)) log s h ≡ item

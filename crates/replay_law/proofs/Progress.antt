@@ -59,7 +59,7 @@ abbrev is_run : Item → Bool
 is_run Move = true
 is_run item = false
 
-move_means : (n : ℕ) (e : Entry) → item_at n (Some e) ≡ Move → count_of e ≢ n
+pub move_means : (n : ℕ) (e : Entry) → item_at n (Some e) ≡ Move → count_of e ≢ n
 move_means n e is same = by (count_of e == n) (is_end e) (eq-eqb (count_of e) n same) is where
   by : (a b : Bool) → a ≡ true → (if not a then Move else if b then Ended else Makes e) ≡ Move → ⊥
   by false b t f = true≢false (sym t)

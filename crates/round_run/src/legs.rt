@@ -132,7 +132,8 @@ fn led<G: Gate>(
     requires may { MayGo runs.old.items untils.now }
     ensures led { IfOk result (λ r. Goes leg.0 r leg.1) }
     ensures gone { OnOk result (HaveGone runs.old.items runs.new.items untils.now) }
-    ensures room { OnOk result ((vec_capacity runs.old ≤ vec_capacity runs.new) × (vec_len runs.new ≡ vec_len runs.old)) }
+    ensures capacity { OnOk result (vec_capacity runs.old ≤ vec_capacity runs.new) }
+    ensures length { OnOk result (vec_len runs.new ≡ vec_len runs.old) }
 {
     match hand {
         Some(hand) => {
@@ -167,7 +168,8 @@ pub(crate) fn legs<G: Gate>(
     requires few { vec_len runs.old ≤ PLACES }
     requires may { MayGo runs.old.items untils.now }
     ensures gone { OnOk result (HaveGone runs.old.items runs.new.items untils.now) }
-    ensures room { OnOk result ((vec_capacity runs.old ≤ vec_capacity runs.new) × (vec_len runs.new ≡ vec_len runs.old)) }
+    ensures capacity { OnOk result (vec_capacity runs.old ≤ vec_capacity runs.new) }
+    ensures length { OnOk result (vec_len runs.new ≡ vec_len runs.old) }
 {
     let Some(run) = runs.pop() else {
         return Ok(());

@@ -249,7 +249,8 @@ pub fn record_rounds<T: Threads + Sync, C: Console, K: Clock, G: Gate>(
         workers,
         gate,
         move || -> (Rounds<C, K>, Result<(), NoMemory>)
-            requires { MayBegin rounds.recording.board rounds.recording.runs.items rounds.recording.orders rounds.stood }
+            requires { MayBegin rounds.recording.board rounds.recording.runs.items
+                rounds.recording.orders rounds.stood }
             ensures { HasGiven rounds.recording.board.now result.0.recording.board.now
                 × OnOk result.1 (TakesAll rounds.recording.board result.0.recording.board
                 result.0.recording.runs.items result.0.recording.orders) }
