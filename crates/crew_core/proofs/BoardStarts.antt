@@ -19,7 +19,7 @@ use Rattle.crew_parts.specs.Parts.{AreParts, until_by}
 use Rattle.crew_parts.proofs.Laws.{boards_are_sound, first_boards}
 use Rattle.crew_core.specs.declared.crew.Crew.{Crew}
 use Rattle.crew_core.specs.Calls.{StandsAtStart, terms_at}
-use Rattle.crew_core.specs.Kept.{IsSpare, Keeps, plain_of}
+use Rattle.crew_core.specs.Kept.{IsSpare, IsSeenAs, plain_of}
 use Rattle.crew_core.specs.Lanes.{Rows}
 use Rattle.log_entry.specs.Waits.{WaitList}
 use Rattle.log_entry.specs.declared.log.Entry.{Entry}
@@ -123,7 +123,7 @@ start_shows c journal turns image shown_image harts limit log_limit world first 
 
 pub first_keeps : (c : Crew) (spare : List WaitList) (journal turns : Rows ℕ) (image : Image) (harts limit log_limit : ℕ) (world : World) → IsWhole image
     → terms_of c ≡ terms_at image limit log_limit → StandsAtStart image harts c → limit ≤ 1000000000000 → 1 ≤ harts → harts ≤ 8 → All IsSpare spare
-    → Keeps c spare journal turns (plain_at_start image harts limit log_limit world)
+    → IsSeenAs c spare journal turns (plain_at_start image harts limit log_limit world)
 first_keeps c spare journal turns image harts limit log_limit world whole terms stands most least few empty =
     let p = plain_at_start image harts limit log_limit world in
     let first = first_boards image harts limit log_limit world spent in
@@ -156,9 +156,9 @@ first_keeps c spare journal turns image harts limit log_limit world whole terms 
 pub start_keeps : (c : Crew) (spare : List WaitList) (journal turns : Rows ℕ) (image shown_image : Image) (harts limit log_limit : ℕ) (world first : World)
     → IsWhole image → shown_image ≡ image → first ≡ world → terms_of c ≡ terms_at image limit log_limit → StandsAtStart image harts c
     → journal.rows ≡ [] → turns.rows ≡ [] → limit ≤ 1000000000000 → 1 ≤ harts → harts ≤ 8 → spare ≡ []
-    → Keeps c spare journal turns (plain_of c journal.rows turns.rows shown_image first world false false)
+    → IsSeenAs c spare journal turns (plain_of c journal.rows turns.rows shown_image first world false false)
 start_keeps c spare journal turns image shown_image harts limit log_limit world first whole image_is first_is terms stands same_journal same_turns most least
     few none =
-    subst (Keeps c spare journal turns)
+    subst (IsSeenAs c spare journal turns)
     (sym (start_shows c journal.rows turns.rows image shown_image harts limit log_limit world first image_is first_is terms stands same_journal same_turns))
     (first_keeps c spare journal turns image harts limit log_limit world whole terms stands most least few (subst (All IsSpare) (sym none) (All-nil IsSpare)))

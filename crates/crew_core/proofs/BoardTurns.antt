@@ -35,7 +35,7 @@ use Rattle.outside.specs.Seen.{ToldBefore}
 use Rattle.std.specs.Prelude.{All}
 use Rattle.device_board.specs.State.{Devices}
 use Rattle.crew_core.specs.Does.{TakesSent}
-use Rattle.crew_core.specs.Kept.{IsSpare, Keeps, plain_of}
+use Rattle.crew_core.specs.Kept.{IsSpare, IsSeenAs, plain_of}
 use Rattle.crew_core.specs.Lanes.{Rows, row_where}
 use Rattle.crew_core.specs.Orders.{told, told_of}
 use Rattle.crew_core.specs.Seats.{reach, seat_of}
@@ -245,7 +245,7 @@ hart_inside c b r h n st led =
 -- what the crew's turn did to the plain data
 pub turn_made : (c d : Crew) (spare : List WaitList) (old_journal old_turns : Rows ℕ) (journal turns : List (ℕ × ℕ)) (image : Image) (first before now : World)
     (abandoned prepared : Bool) (r after : Run) (h n : ℕ) (t : Turned)
-    → Keeps c spare old_journal old_turns (plain_of c old_journal.rows old_turns.rows image first before abandoned prepared)
+    → IsSeenAs c spare old_journal old_turns (plain_of c old_journal.rows old_turns.rows image first before abandoned prepared)
     → IsPartAdvanced (plain_of c old_journal.rows old_turns.rows image first before abandoned prepared) h n r → d.harts ≡ c.harts
     → (does : TurnDoes c d r after h t before.console now.console before.clock now.clock)
     → journal ≡ row_where (not (t.items == 0)) (h, t.items) old_journal.rows → turns ≡ row_where t.noted (h, t.moves) old_turns.rows
@@ -265,7 +265,7 @@ turn_made c d spare old_journal old_turns journal turns image first before now a
 -- a turn of the crew is one of the board
 pub turn_done : (c d : Crew) (spare more : List WaitList) (old_journal old_turns journal turns : Rows ℕ) (image : Image) (first before now : World)
     (abandoned prepared : Bool) (r after : Run) (hart n : ℕ) (t : Turned)
-    → Keeps c spare old_journal old_turns (plain_of c old_journal.rows old_turns.rows image first before abandoned prepared)
+    → IsSeenAs c spare old_journal old_turns (plain_of c old_journal.rows old_turns.rows image first before abandoned prepared)
     → IsPartAdvanced (plain_of c old_journal.rows old_turns.rows image first before abandoned prepared) (number_of r) n r → hart ≡ number_of r
     → d.harts ≡ c.harts → ToldBefore before.console.tells_answers now.console.tells_answers
     → ToldBefore before.console.tells_taken now.console.tells_taken → ToldBefore before.clock.tells now.clock.tells
@@ -273,7 +273,7 @@ pub turn_done : (c d : Crew) (spare more : List WaitList) (old_journal old_turns
     → TurnDoes c d r after hart t before.console now.console before.clock now.clock
     → journal.rows ≡ row_where (not (t.items == 0)) (hart, t.items) old_journal.rows → turns.rows ≡ row_where t.noted (hart, t.moves) old_turns.rows
     → All IsSpare more
-    → Keeps d more journal turns (plain_of d journal.rows turns.rows image first now abandoned false)
+    → IsSeenAs d more journal turns (plain_of d journal.rows turns.rows image first now abandoned false)
     × HasTurn (plain_of c old_journal.rows old_turns.rows image first before abandoned prepared)
     (plain_of d journal.rows turns.rows image first now abandoned false)
     (number_of r) r after (told t.order)

@@ -59,66 +59,66 @@ IsNext t h (Go until) b = until ≡ min t.limit (next_poll (the_board.count b.at
 IsNext t h order b = Unit {0}
 
 module _ (t : Terms) (h : ℕ) (f : Bool) where
-  abbrev pub Keeps : Board FlatState → Way FlatState → Type 0
-  Keeps b (On c) = KeepsRows f b c
-  Keeps b (Ends order c) = KeepsRows f b c × IsNext t h order c
-  Keeps b Nowhere = Unit {0}
+  abbrev pub KeepsRowsAlong : Board FlatState → Way FlatState → Type 0
+  KeepsRowsAlong b (On c) = KeepsRows f b c
+  KeepsRowsAlong b (Ends order c) = KeepsRows f b c × IsNext t h order c
+  KeepsRowsAlong b Nowhere = Unit {0}
 
-  after : (b c : Board FlatState) (way : Way FlatState) → KeepsRows f b c → Keeps c way → Keeps b way
+  after : (b c : Board FlatState) (way : Way FlatState) → KeepsRows f b c → KeepsRowsAlong c way → KeepsRowsAlong b way
   after b c (On d) x y = behind f b c d x y
   after b c (Ends order d) x y = (behind f b c d x y.0, y.1)
   after b c Nowhere x y = tt
 
   abbrev AllKeep : List Step → Type 0
   AllKeep [] = Unit {0}
-  AllKeep (g ∷ gs) = ((c : Board FlatState) → Keeps c (g c)) × AllKeep gs
+  AllKeep (g ∷ gs) = ((c : Board FlatState) → KeepsRowsAlong c (g c)) × AllKeep gs
 
-  walk : (gs : List Step) (b : Board FlatState) (way : Way FlatState) → AllKeep gs → Keeps b way → Keeps b (goes gs way)
+  walk : (gs : List Step) (b : Board FlatState) (way : Way FlatState) → AllKeep gs → KeepsRowsAlong b way → KeepsRowsAlong b (goes gs way)
   walk [] b way all kept = kept
   walk (g ∷ gs) b (On c) all kept = walk gs b (g c) all.1 (after b c (g c) kept (all.0 c))
   walk (g ∷ gs) b (Ends order c) all kept = kept
   walk (g ∷ gs) b Nowhere all kept = tt
 
-  each : {X : Type 0} (g : X → Step) → ((x : X) (c : Board FlatState) → Keeps c (g x c)) → (xs : List X) → AllKeep (map g xs)
+  each : {X : Type 0} (g : X → Step) → ((x : X) (c : Board FlatState) → KeepsRowsAlong c (g x c)) → (xs : List X) → AllKeep (map g xs)
   each g keeps [] = tt
   each g keeps (x ∷ xs) = (keeps x, each g keeps xs)
 
-  choice : (b : Board FlatState) (c : Bool) (x y : Way FlatState) → Keeps b x → Keeps b y → Keeps b (if c then x else y)
+  choice : (b : Board FlatState) (c : Bool) (x y : Way FlatState) → KeepsRowsAlong b x → KeepsRowsAlong b y → KeepsRowsAlong b (if c then x else y)
   choice b true x y left right = left
   choice b false x y left right = right
 
-  rest : (b : Board FlatState) → Keeps b (Ends Rest b)
+  rest : (b : Board FlatState) → KeepsRowsAlong b (Ends Rest b)
   rest b = (as_it_is f b, tt)
 
-  roomy : (e : Entry) (step : Step) (b : Board FlatState) → Keeps b (step b) → Keeps b (with_room the_machine t e step b)
+  roomy : (e : Entry) (step : Step) (b : Board FlatState) → KeepsRowsAlong b (step b) → KeepsRowsAlong b (with_room the_machine t e step b)
   roomy e step b fits = choice b (has_room the_machine t e b) (step b) (Ends Rest (closes causes.Full b)) fits (filled f b, tt)
 
   once : (b : Board FlatState) (g : Replay FlatState → Board FlatState) (o : Option (Replay FlatState)) → ((s : Replay FlatState) → KeepsRows f b (g s))
-      → Keeps b (on (option_map g o))
+      → KeepsRowsAlong b (on (option_map g o))
   once b g None keeps = tt
   once b g (Some s) keeps = keeps s
 
-  made_keeps : (b : Board FlatState) (o : Supply) (e : Entry) → Keeps b (on (entered the_machine t h e (record b { supply = o })))
+  made_keeps : (b : Board FlatState) (o : Supply) (e : Entry) → KeepsRowsAlong b (on (entered the_machine t h e (record b { supply = o })))
   made_keeps b o e = once b _ (made the_board b.at h (Makes e)) (λ s. alike f b _ refl refl refl)
 
-  closed_keeps : (b : Board FlatState) → Keeps b (rests_where_closed the_machine t b)
+  closed_keeps : (b : Board FlatState) → KeepsRowsAlong b (rests_where_closed the_machine t b)
   closed_keeps b = choice b (is_some b.closed || the_board.is_stopped b.at.flat) (Ends Rest b) (On b) (rest b) (as_it_is f b)
 
-  limit_keeps : (b : Board FlatState) → Keeps b (rests_at_limit the_machine t h b)
+  limit_keeps : (b : Board FlatState) → KeepsRowsAlong b (rests_at_limit the_machine t h b)
   limit_keeps b = choice b (is_at_limit the_machine t b h) (Ends Rest b) (On b) (rest b) (as_it_is f b)
 
-  polls_with_keeps : (b : Board FlatState) (o : Option (ℕ × Supply)) → Keeps b (polls_with the_machine t h b o)
+  polls_with_keeps : (b : Board FlatState) (o : Option (ℕ × Supply)) → KeepsRowsAlong b (polls_with the_machine t h b o)
   polls_with_keeps b None = tt
   polls_with_keeps b (Some (time, left)) = made_keeps b left (poll_at the_machine t h b (max time (the_board.time b.at.flat)))
 
-  polls_keep : (b : Board FlatState) → Keeps b (polls the_machine t h b)
+  polls_keep : (b : Board FlatState) → KeepsRowsAlong b (polls the_machine t h b)
   polls_keep b =
       choice b (is_due the_machine t h b) _ (On b)
       (roomy (poll_at the_machine t h b 0) (λ c. polls_with the_machine t h c (clock_answers c.supply.times c.supply)) b
       (polls_with_keeps b (clock_answers b.supply.times b.supply)))
       (as_it_is f b)
 
-  yields_for_keeps : (g : ℕ) (b : Board FlatState) (o : Option (ℕ × Mode)) → Keeps b (yields_for the_machine t h g o b)
+  yields_for_keeps : (g : ℕ) (b : Board FlatState) (o : Option (ℕ × Mode)) → KeepsRowsAlong b (yields_for the_machine t h g o b)
   yields_for_keeps g b None = as_it_is f b
   yields_for_keeps g b (Some n) =
       choice b (yields_now the_machine t h g n b) _ (On b)
@@ -126,32 +126,32 @@ module _ (t : Terms) (h : ℕ) (f : Bool) where
       (made_keeps b b.supply (yield_of the_machine t h n b)))
       (as_it_is f b)
 
-  yields_to_keeps : (g : ℕ) (b : Board FlatState) → Keeps b (yields_to the_machine t h g b)
+  yields_to_keeps : (g : ℕ) (b : Board FlatState) → KeepsRowsAlong b (yields_to the_machine t h g b)
   yields_to_keeps g b = choice b (g == h) (On b) (yields_for the_machine t h g (wanted b g) b) (as_it_is f b) (yields_for_keeps g b (wanted b g))
 
-  yields_keep : (b : Board FlatState) → Keeps b (yields the_machine t h b)
+  yields_keep : (b : Board FlatState) → KeepsRowsAlong b (yields the_machine t h b)
   yields_keep b = walk (map (yields_to the_machine t h) (harts b)) b (On b) (each (yields_to the_machine t h) yields_to_keeps (harts b)) (as_it_is f b)
 
-  gains_unless_keeps : (o : Option ℕ) (n : ℕ × Mode) (b : Board FlatState) → Keeps b (gains_unless the_machine t o h n b)
+  gains_unless_keeps : (o : Option ℕ) (n : ℕ × Mode) (b : Board FlatState) → KeepsRowsAlong b (gains_unless the_machine t o h n b)
   gains_unless_keeps None n b =
       roomy (gain_of the_machine t h n b) (λ c. on (entered the_machine t h (gain_of the_machine t h n c) c)) b
       (made_keeps b b.supply (gain_of the_machine t h n b))
   gains_unless_keeps (Some g) n b = (alike f b _ refl refl refl, tt)
 
-  gains_page_keeps : (n : ℕ × Mode) (b : Board FlatState) → Keeps b (gains_page the_machine t h n b)
+  gains_page_keeps : (n : ℕ × Mode) (b : Board FlatState) → KeepsRowsAlong b (gains_page the_machine t h n b)
   gains_page_keeps n b = choice b (holds_so b h n) (On b) (gains_unless the_machine t (kept_by b h n) h n b) (as_it_is f b)
       (gains_unless_keeps (kept_by b h n) n b)
 
-  pub gains_keep : (b : Board FlatState) → Keeps b (gains the_machine t h b)
+  pub gains_keep : (b : Board FlatState) → KeepsRowsAlong b (gains the_machine t h b)
   gains_keep b = walk (map (gains_page the_machine t h) (needed the_machine t b h)) b (On b)
       (each (gains_page the_machine t h) gains_page_keeps (needed the_machine t b h)) (as_it_is f b)
 
-  pub first_keep : (b : Board FlatState) → Keeps b (goes (first_steps t h) (On b))
+  pub first_keep : (b : Board FlatState) → KeepsRowsAlong b (goes (first_steps t h) (On b))
   first_keep b = walk (first_steps t h) b (On b) (closed_keeps, (polls_keep, (yields_keep, (limit_keeps, tt)))) (as_it_is f b)
 
 module _ (t : Terms) (h : ℕ) where
   abbrev pub Leaves : Board FlatState → Way FlatState → Type 0
-  Leaves b way = Keeps t h true b way
+  Leaves b way = KeepsRowsAlong t h true b way
 
   favoured : (b d : Board FlatState) (c : Bool) → KeepsRows true b d → KeepsRows true b (if c then passes_favour h d else d)
   favoured b d true kept = changed_rows b _ kept.journal kept.turns

@@ -29,7 +29,7 @@ use Rattle.crew_core.specs.Standing.{Stands, terms_of}
 use Rattle.crew_core.specs.Does.{Does, IsCalm, TakesSent, bytes_sent}
 use Rattle.crew_parts.specs.Turns.{CountsFaults}
 use Rattle.crew_core.specs.Calls.{first_of}
-use Rattle.crew_core.proofs.Rows.{Keeps, gains_keep, first_keep}
+use Rattle.crew_core.proofs.Rows.{KeepsRowsAlong, gains_keep, first_keep}
 use Rattle.turn_model.proofs.BoardFacts.{none_given}
 
 abbrev Loaded : Type 0
@@ -147,11 +147,13 @@ no_stop e = cc
 pub gains_calm : (c new : Crew) (r : Run) (h : ℕ) (order : Order) (b : Board FlatState) (left : Supply) → Stands c b
     → Does c new r h (Some order) (gains the_machine (terms_of c) h b) left → IsCalm c new
 gains_calm c new r h order b left st d = λ closed.
-    let kept : Keeps (terms_of c) h false b (Ends (told order) d.to) = subst (Keeps (terms_of c) h false b) d.is (gains_keep (terms_of c) h false b) in
+    let kept : KeepsRowsAlong (terms_of c) h false b (Ends (told order) d.to) =
+        subst (KeepsRowsAlong (terms_of c) h false b) d.is (gains_keep (terms_of c) h false b) in
     st.closed ∙ kept.0.calm refl (sym d.stands.closed ∙ closed)
 
 pub first_calm : (c new : Crew) (r : Run) (h : ℕ) (order : Order) (b : Board FlatState) (left : Supply) → Stands c b
     → Does c new r h (Some order) (first_of c h b) left → IsCalm c new
 first_calm c new r h order b left st d = λ closed.
-    let kept : Keeps (terms_of c) h false b (Ends (told order) d.to) = subst (Keeps (terms_of c) h false b) d.is (first_keep (terms_of c) h false b) in
+    let kept : KeepsRowsAlong (terms_of c) h false b (Ends (told order) d.to) =
+        subst (KeepsRowsAlong (terms_of c) h false b) d.is (first_keep (terms_of c) h false b) in
     st.closed ∙ kept.0.calm refl (sym d.stands.closed ∙ closed)

@@ -22,7 +22,7 @@ use Rattle.replay_model.specs.State.{Replay, IsCrewState}
 use Rattle.crew_parts.specs.Boards.{Plain, World, IsReached, board_of, cut_in, is_over_in, spent, state_of}
 use Rattle.run_model.specs.Numbers.{AreNumbered}
 use Rattle.crew_parts.proofs.Laws.{boards_set}
-use Rattle.crew_core.specs.Kept.{IsReady, IsRoomier, IsSpare, Keeps, plain_of}
+use Rattle.crew_core.specs.Kept.{IsReady, IsRoomier, IsSpare, IsSeenAs, plain_of}
 use Rattle.crew_core.specs.Lanes.{Lane, Rows}
 use Rattle.crew_core.specs.Seats.{is_at, no_seat, seat_of, without_room, HasRoomFor}
 use Rattle.crew_core.specs.Orders.{told_of}
@@ -89,14 +89,14 @@ same_state p favoured closed abandoned prepared = refl
 
 -- a crew in which only these are set, and room was added, stands for the board in which they are set
 pub set_keeps : (c d : Crew) (spare more : List WaitList) (journal turns further_journal further_turns : Rows ℕ) (p q : Plain)
-    → Keeps c spare journal turns p → d.harts ≡ p.harts → terms_of d ≡ terms_of c
+    → IsSeenAs c spare journal turns p → d.harts ≡ p.harts → terms_of d ≡ terms_of c
     → q ≡ record p { favoured = d.favoured; closed = d.closed; abandoned = q.abandoned; prepared = q.prepared }
     → IsReached (record p { favoured = d.favoured; closed = d.closed; abandoned = q.abandoned; prepared = q.prepared })
     → Stands d (record (board_of p spent) { favoured = d.favoured; closed = d.closed }) → All IsSpare more
-    → (IsTrue q.prepared → IsReady d more further_journal further_turns) → Keeps d more further_journal further_turns q
+    → (IsTrue q.prepared → IsReady d more further_journal further_turns) → IsSeenAs d more further_journal further_turns q
 set_keeps c d spare more journal turns further_journal further_turns p q k harts terms is reached stands empty ready =
     let at = same_state p d.favoured d.closed q.abandoned q.prepared in
-    subst (Keeps d more further_journal further_turns) (sym is) (record {
+    subst (IsSeenAs d more further_journal further_turns) (sym is) (record {
       terms = terms ∙ k.terms;
       most = k.most;
       stands = subst (λ (z : Replay FlatState). Stands d (record (board_of p spent) { at = z; favoured = d.favoured; closed = d.closed })) (sym at) stands;
@@ -145,8 +145,8 @@ ready_set c favoured closed spare journal turns r = record {
 }
 
 pub favour_keeps : (c : Crew) (spare : List WaitList) (journal turns : Rows ℕ) (image : Image) (first now : World) (abandoned prepared : Bool) (r : ℕ)
-    → Keeps c spare journal turns (plain_of c journal.rows turns.rows image first now abandoned prepared) → r < c.harts
-    → Keeps (record c { favoured = r }) spare journal turns (plain_of (record c { favoured = r }) journal.rows turns.rows image first now abandoned prepared)
+    → IsSeenAs c spare journal turns (plain_of c journal.rows turns.rows image first now abandoned prepared) → r < c.harts
+    → IsSeenAs (record c { favoured = r }) spare journal turns (plain_of (record c { favoured = r }) journal.rows turns.rows image first now abandoned prepared)
 favour_keeps c spare journal turns image first now abandoned prepared r k l =
     let p = plain_of c journal.rows turns.rows image first now abandoned prepared in
     set_keeps c (record c { favoured = r }) spare spare journal turns journal turns p (record p { favoured = r }) k refl refl refl
@@ -158,22 +158,22 @@ unfolding state_of
 reached_aside p abandoned prepared reached = reached
 
 pub close_keeps : (c d : Crew) (cause : Cause) (spare : List WaitList) (journal turns : Rows ℕ) (image : Image) (first now : World)
-    (abandoned prepared further : Bool) → Keeps c spare journal turns (plain_of c journal.rows turns.rows image first now abandoned prepared)
+    (abandoned prepared further : Bool) → IsSeenAs c spare journal turns (plain_of c journal.rows turns.rows image first now abandoned prepared)
     → d ≡ record c { closed = Some (unwrap_or c.closed cause) }
-    → Keeps d spare journal turns (plain_of d journal.rows turns.rows image first now further prepared)
+    → IsSeenAs d spare journal turns (plain_of d journal.rows turns.rows image first now further prepared)
 close_keeps c d cause spare journal turns image first now abandoned prepared further k is =
     let p = plain_of c journal.rows turns.rows image first now abandoned prepared in
     let closed = Some (unwrap_or c.closed cause) in
-    subst (λ (z : Crew). Keeps z spare journal turns (plain_of z journal.rows turns.rows image first now further prepared)) (sym is)
+    subst (λ (z : Crew). IsSeenAs z spare journal turns (plain_of z journal.rows turns.rows image first now further prepared)) (sym is)
     (set_keeps c (record c { closed = closed }) spare spare journal turns journal turns p (record p { closed = closed; abandoned = further }) k refl refl refl
     (reached_aside (record p { closed = closed }) further prepared ((boards_set p k.board.reached).1 cause)) (stands_closed c (board_of p spent) cause k.stands)
     k.empty (λ t. ready_set c c.favoured closed spare journal turns (k.ready t)))
 
 pub roomier_keeps : (c d : Crew) (spare more : List WaitList) (journal turns further_journal further_turns : Rows ℕ) (image : Image) (first now : World)
-    (abandoned prepared ready : Bool) → Keeps c spare journal turns (plain_of c journal.rows turns.rows image first now abandoned prepared) → IsRoomier c d
+    (abandoned prepared ready : Bool) → IsSeenAs c spare journal turns (plain_of c journal.rows turns.rows image first now abandoned prepared) → IsRoomier c d
     → further_journal.rows ≡ journal.rows → further_turns.rows ≡ turns.rows → All IsSpare more
     → (IsTrue ready → IsReady d more further_journal further_turns)
-    → Keeps d more further_journal further_turns (plain_of d further_journal.rows further_turns.rows image first now abandoned ready)
+    → IsSeenAs d more further_journal further_turns (plain_of d further_journal.rows further_turns.rows image first now abandoned ready)
 roomier_keeps c d spare more journal turns further_journal further_turns image first now abandoned prepared ready k room same_journal same_turns empty
     is_ready =
     let p = plain_of c journal.rows turns.rows image first now abandoned prepared in

@@ -55,7 +55,7 @@ pub record IsReady (c : Crew) (spare : List WaitList) (journal turns : Rows ℕ)
   pub turns_room : length turns.rows < turns.room
 
 -- the crew stands for the board of this plain data, to which turns led
-pub record Keeps (c : Crew) (spare : List WaitList) (journal turns : Rows ℕ) (p : Plain) : Type 0 where
+pub record IsSeenAs (c : Crew) (spare : List WaitList) (journal turns : Rows ℕ) (p : Plain) : Type 0 where
   pub terms : terms_of c ≡ boards.terms_of p
   pub most : p.limit ≤ 1000000000000
   pub stands : Stands c (board_of p spent)

@@ -70,7 +70,7 @@ pub struct Board<C: Console, K: Clock> {
 impl<C: Console, K: Clock> Model for Board<C, K> {
     ghost use Rattle.crew_parts.specs.Boards as boards;
     ghost use Rattle.crew_parts.specs.Boards.{world};
-    ghost use Rattle.crew_core.specs.Kept.{Keeps, plain_of};
+    ghost use Rattle.crew_core.specs.Kept.{IsSeenAs, plain_of};
 
     ghost Value = { boards.Plain };
 
@@ -78,7 +78,8 @@ impl<C: Console, K: Clock> Model for Board<C, K> {
         (world (C.seen b.first_console.value) (K.seen b.first_clock.value)) (world (C.seen b.console) (K.seen b.clock))
         b.abandoned b.prepared };
 
-    ghost invariant = { λ b. Keeps b.crew b.spare.items b.journal b.turns (plain_of b.crew b.journal.rows b.turns.rows b.image.value
+    ghost invariant = { λ b. IsSeenAs b.crew b.spare.items b.journal b.turns
+        (plain_of b.crew b.journal.rows b.turns.rows b.image.value
         (world (C.seen b.first_console.value) (K.seen b.first_clock.value)) (world (C.seen b.console) (K.seen b.clock))
         b.abandoned b.prepared) };
 }

@@ -37,13 +37,13 @@ FirstBoards = (image : Image) (harts limit log_limit : ℕ) (world : World) (lef
     × IsReached (plain_at_start image harts limit log_limit world)
 
 -- what holds of the state of a board that turns led to
-pub record IsSound (p : Plain) : Type 0 where
+pub record IsSoundBoard (p : Plain) : Type 0 where
   pub streams : length p.streams ≡ p.harts
   pub crew : IsCrewState the_board (state_of p)
   pub numbered : AreNumbered (state_of p).flat
 
 abbrev pub BoardsAreSound : Type 0
-BoardsAreSound = (p : Plain) → IsWhole p.image → IsReached p → IsSound p
+BoardsAreSound = (p : Plain) → IsWhole p.image → IsReached p → IsSoundBoard p
 
 -- To name a hart of the board as the favoured one, or to close it, leads from such boards to such boards.
 abbrev pub BoardsSet : Type 0

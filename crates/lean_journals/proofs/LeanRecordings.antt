@@ -4,7 +4,7 @@ use Rattle.elf_image.specs.Image.{Image, IsWhole}
 use Rattle.flat_machine.specs.State.{FlatState, flat_at_start}
 use Rattle.crew_recording.proofs.Steady.{no_place}
 use Rattle.turn_model.specs.Board.{Supply, Terms}
-use Rattle.turn_model.specs.Lists.{Recorded}
+use Rattle.turn_model.specs.Lists.{RecordingEnd}
 use Rattle.turn_model.specs.Laws.{IsPagedBoard, machine_in}
 use Rattle.lean_journals.specs.Laws.{IsLeanFrom, RecordingsAreLean, RoundsAreLean}
 use Rattle.lean_journals.proofs.BoardWants.{board_wants_stay}
@@ -12,7 +12,7 @@ use Rattle.turn_model.proofs.Boards.{reached_lean}
 use Rattle.turn_model.proofs.RightRecordings.{faithful, starts, ComesTo, list_comes, rounds_come}
 
 module _ (terms : Terms) (image : Image) (harts : ℕ) (supply : Supply) (pages : terms.pages ≡ image.pages) (whole : IsWhole image) where
-  lean_where_reached : (r : Recorded FlatState) → ComesTo terms image harts supply pages r → IsLeanFrom (flat_at_start image harts) r
+  lean_where_reached : (r : RecordingEnd FlatState) → ComesTo terms image harts supply pages r → IsLeanFrom (flat_at_start image harts) r
   lean_where_reached r reached =
       let faith = faithful terms image harts supply pages in
       let from = starts terms image harts supply pages in

@@ -3,4 +3,4 @@ pub mod Loops
 pub mod Going
 pub mod Advanced
 pub mod Over
-pub mod Recorded
+pub mod Recordings

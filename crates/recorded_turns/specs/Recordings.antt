@@ -11,7 +11,7 @@ use Rattle.flat_machine.specs.State.{FlatState, flat_at_start}
 use Rattle.flat_machine.specs.Runs.{final_of}
 use Rattle.flat_machine.specs.declared.results.Final.{Final}
 use Rattle.turn_model.specs.Board.{Board, Supply, Terms, is_over}
-use Rattle.turn_model.specs.Lists.{Recorded, listed, recorded_by_list}
+use Rattle.turn_model.specs.Lists.{RecordingEnd, listed, recorded_by_list}
 use Rattle.turn_model.specs.Rounds.{IsRecordedInRounds}
 use Rattle.turn_model.specs.Laws.{IsRight, OfHarts, first_board}
 use Rattle.turn_laws.specs.EndLaws.{AreInLimits, CauseTells}
@@ -21,14 +21,14 @@ use Rattle.crew_parts.specs.Boards.{Plain, World, the_machine, spent, terms_of}
 use Rattle.crew_parts.specs.Turns.{CountsFaults, Gives, IsSpent}
 
 -- a board's recording by a list of turns, and one in rounds
-abbrev pub ByList : List (ℕ × ℕ) → Terms → Board FlatState → Recorded FlatState → Type 0
+abbrev pub ByList : List (ℕ × ℕ) → Terms → Board FlatState → RecordingEnd FlatState → Type 0
 ByList list terms b r = recorded_by_list the_machine terms list b ≡ Some r
 
-abbrev pub InRounds : Terms → Board FlatState → Recorded FlatState → Type 0
+abbrev pub InRounds : Terms → Board FlatState → RecordingEnd FlatState → Type 0
 InRounds terms b r = IsRecordedInRounds the_machine terms b r
 
 -- this log, without the room of its waits, with journal, turns and the state at the end, and with this left to give
-abbrev pub recording : Log → List (ℕ × ℕ) → List (ℕ × ℕ) → FlatState → Supply → Recorded FlatState
+abbrev pub recording : Log → List (ℕ × ℕ) → List (ℕ × ℕ) → FlatState → Supply → RecordingEnd FlatState
 recording log journal turns at left = record { log = log_without_room log; journal = journal; turns = turns; ended = at; left = left }
 
 -- the board before any turn, with this to be given
@@ -38,7 +38,7 @@ board_before start supply = first_board (terms_of start) start.image start.harts
 -- Console and clock gave something from the start on, and with it the recording is of this kind, whatever they give later, but for a
 -- console that failed. The console's count of faults rose where its failure ended the run, and else stayed; what it took is what was
 -- sent.
-pub record Records (Kind : Terms → Board FlatState → Recorded FlatState → Type 0) (start : Plain) (after : World) (log : Log) (ended : Final)
+pub record Records (Kind : Terms → Board FlatState → RecordingEnd FlatState → Type 0) (start : Plain) (after : World) (log : Log) (ended : Final)
     (journal turns : List (ℕ × ℕ)) : Type 0 where
   pub limits : AreInLimits (terms_of start) start.image start.harts
   pub given : Supply

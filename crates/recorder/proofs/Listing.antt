@@ -25,7 +25,7 @@ use Rattle.recorded_turns.specs.Recordings.{ByList, RecordsByList}
 use Rattle.recorded_turns.specs.Takes.{Takes}
 use Rattle.recorded_turns.proofs.Loops.{lists_are_taken, rows_are_taken, terms_stay}
 use Rattle.recorded_turns.proofs.Over.{closes_are_taken, cut_is_taken}
-use Rattle.recorded_turns.proofs.Recorded.{comes_out}
+use Rattle.recorded_turns.proofs.Recordings.{comes_out}
 use Rattle.recorded_turns.proofs.Taking.{takes_none}
 use Rattle.recorder.specs.Listed.{HasRow, TakesRows, TakesList}
 use Rattle.recorder.specs.Manned.{HasGiven, IsManned, HasTurnOf, leg_in, row_moves, still, without}

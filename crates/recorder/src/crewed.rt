@@ -45,13 +45,13 @@ fn take_turn<C: Console, K: Clock>(
 
 /// A recording under way. The runs and what harts were told last stand in the order of the harts.
 #[derive(Drop)]
-pub struct Recording<C: Console, K: Clock> {
+pub struct Recorder<C: Console, K: Clock> {
     pub board: Board<C, K>,
     pub runs: Vec<HartRun>,
     pub orders: [Option<Order>; PLACES],
 }
 
-impl<C: Console, K: Clock> Recording<C, K> {
+impl<C: Console, K: Clock> Recorder<C, K> {
     /// A recording before any turn.
     pub fn start(
         alloc: Global,
@@ -61,7 +61,7 @@ impl<C: Console, K: Clock> Recording<C, K> {
         log_limit: u64,
         console: C,
         clock: K,
-    ) -> Result<Recording<C, K>, OutOfMemory<C, K>>
+    ) -> Result<Recorder<C, K>, OutOfMemory<C, K>>
         requires least { 1 ≤ harts }
         requires most { harts ≤ MAX_HARTS }
         requires limit { limit ≤ 1000000000000 }
@@ -76,7 +76,7 @@ impl<C: Console, K: Clock> Recording<C, K> {
         match Board::start(alloc, image, harts, limit, log_limit, console, clock) {
             Ok(begun) => {
                 let (board, runs) = begun;
-                Ok(Recording {
+                Ok(Recorder {
                     board,
                     runs,
                     orders: [None; PLACES],
@@ -123,7 +123,7 @@ impl<C: Console, K: Clock> Recording<C, K> {
         ensures world { IfOk result (λ r. world (C.seen r.console) (K.seen r.clock) ≡ self.board.now) }
         ensures refused { IfErr result (λ e. world (C.seen e.console) (K.seen e.clock) ≡ self.board.now) }
     {
-        let Recording { board, runs, .. } = self;
+        let Recorder { board, runs, .. } = self;
         board.finish(runs)
     }
 
@@ -131,7 +131,7 @@ impl<C: Console, K: Clock> Recording<C, K> {
     pub fn abandon(self) -> OutOfMemory<C, K>
         ensures { world (C.seen result.console) (K.seen result.clock) ≡ self.board.now }
     {
-        let Recording {
+        let Recorder {
             mut board,
             runs,
             ..

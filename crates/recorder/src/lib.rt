@@ -8,5 +8,5 @@ mod rows;
 #[cfg(test)]
 mod tests;
 
-pub use crewed::{PLACES, Recording};
+pub use crewed::{PLACES, Recorder};
 pub use list::{has_harts, record_list};

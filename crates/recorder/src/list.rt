@@ -9,7 +9,7 @@ ghost use Rattle.recorded_turns.specs.Recordings.{RecordsByList};
 ghost use Rattle.recorder.specs.Manned.{HasGiven, IsManned, still};
 ghost use Rattle.recorder.specs.Listed.{HasRow, TakesRows, TakesList};
 
-use crate::crewed::Recording;
+use crate::crewed::Recorder;
 use crew_core::{OutOfMemory, Recorded};
 use elf_image::Image;
 use outside::{Clock, Console};
@@ -17,7 +17,7 @@ use rv_words::MAX_HARTS;
 use shared_types::NoMemory;
 use std::alloc::Global;
 
-impl<C: Console, K: Clock> Recording<C, K> {
+impl<C: Console, K: Clock> Recorder<C, K> {
     /// A turn of a hart, with so many moves of its leg at most.
     fn row(&mut self, alloc: Global, hart: u8, most: u32) -> Result<(), NoMemory>
         requires hart { hart < self.old.board.harts }
@@ -115,7 +115,7 @@ pub fn record_list<C: Console, K: Clock>(
         (λ e. HasGiven (world (C.seen console) (K.seen clock)) (world (C.seen e.console) (K.seen e.clock))) }
 {
     let _ = image.pages();
-    let mut recording = Recording::start(alloc, image, harts, limit, log_limit, console, clock)?;
+    let mut recording = Recorder::start(alloc, image, harts, limit, log_limit, console, clock)?;
     match recording.list(alloc, list) {
         Ok(()) => recording.finish(),
         Err(NoMemory) => Err(recording.abandon()),

@@ -35,7 +35,7 @@ use Rattle.replay_core.specs.Items.{answer_of, went_of}
 use Rattle.replay_core.specs.declared.replaying.Replaying.{Replaying}
 use Rattle.replay_core.specs.Standing.{Begins, IsAt, Stands}
 use Rattle.replay_core.specs.Entries.{HasMadeAll, MakesAll}
-use Rattle.replay_core.specs.Turns.{AreParts, Keeps, pace_of, plain_of, told}
+use Rattle.replay_core.specs.Turns.{AreParts, IsSeenAs, pace_of, plain_of, told}
 use Rattle.log_order.proofs.Refusals.{small}
 use Rattle.replay_core.proofs.LegsAsItems.{stands_led}
 use Rattle.replay_core.proofs.MovesMade.{place_there}
@@ -68,7 +68,7 @@ made_is log s h makes =
     ap (λ i. went_of i (verdict (board (unit_of log)) log s h)) makes.1.0 ∙ ap (went_of (Makes makes.0)) makes.1.1
 
 -- there is a place and a count for each hart
-module _ (b : Position) (ends : Ends) (image : Image) (counts : List ℕ) (k : Keeps b ends (plain_of b image counts)) where
+module _ (b : Position) (ends : Ends) (image : Image) (counts : List ℕ) (k : IsSeenAs b ends (plain_of b image counts)) where
   pub places_size : length b.cursor.places ≡ length b.log.streams
   places_size = ap (λ (c : Cursor). length c.places) k.stands.cursor ∙ (reached image b k.at k.stands).going.places
 
@@ -78,7 +78,7 @@ module _ (b : Position) (ends : Ends) (image : Image) (counts : List ℕ) (k : K
       ap length (sym k.reaches.counts) ∙ sized.counts_size ∙ sized.harts_size
 
 -- a turn of hart h, whose run is r and was advanced by n moves
-module _ (b : Position) (ends : Ends) (image : Image) (counts : List ℕ) (r : Run) (h n : ℕ) (k : Keeps b ends (plain_of b image counts))
+module _ (b : Position) (ends : Ends) (image : Image) (counts : List ℕ) (r : Run) (h n : ℕ) (k : IsSeenAs b ends (plain_of b image counts))
     (part : IsPartAdvanced (plain_of b image counts) h n r) where
   from : state_of (plain_of b image counts) ≡ k.at
   from = states_are (plain_of b image counts) k.at k.reaches
@@ -117,7 +117,7 @@ module _ (b : Position) (ends : Ends) (image : Image) (counts : List ℕ) (r : R
 
 -- the entries behind it
 module _ (b d : Position) (ends : Ends) (image : Image) (counts : List ℕ) (r after : Run) (h n : ℕ) (answer : Went)
-    (k : Keeps b ends (plain_of b image counts)) (part : IsPartAdvanced (plain_of b image counts) h n r) (makes : MakesAll b d r after h answer) where
+    (k : IsSeenAs b ends (plain_of b image counts)) (part : IsPartAdvanced (plain_of b image counts) h n r) (makes : MakesAll b d r after h answer) where
   made : HasMadeAll image d after b.log h part.led.at answer
   made = makes image part.led.at (led_there b ends image counts r h n k part) part.led.agrees
 
@@ -152,7 +152,7 @@ module _ (b d : Position) (ends : Ends) (image : Image) (counts : List ℕ) (r a
 
   -- the board behind it, with the run's count
   turned : d.log ≡ b.log → (count until : ℕ) → count ≡ after.count → until ≡ until_by count (first_left d.log d.cursor h)
-      → Keeps d ends (plain_of d image (slice_set counts h count))
+      → IsSeenAs d ends (plain_of d image (slice_set counts h count))
       × IsTurn (plain_of b image counts) (plain_of d image (slice_set counts h count)) h n (told (pace_of until answer))
       × IsPart (plain_of d image (slice_set counts h count)) h after
   turned log_is count until count_is until_by_is =
@@ -192,16 +192,16 @@ module _ (b d : Position) (ends : Ends) (image : Image) (counts : List ℕ) (r a
 
 -- a turn of the run's hart
 pub turn_done : (b d : Position) (ends : Ends) (image : Image) (counts : List ℕ) (r after : Run) (hart place n count until : ℕ) (answer : Went) (pace : Pace)
-    → Keeps b ends (plain_of b image counts) → IsPartAdvanced (plain_of b image counts) (number_of r) n r → hart ≡ number_of r → place ≡ hart
+    → IsSeenAs b ends (plain_of b image counts) → IsPartAdvanced (plain_of b image counts) (number_of r) n r → hart ≡ number_of r → place ≡ hart
     → MakesAll b d r after hart answer → d.log ≡ b.log → count ≡ after.count → until ≡ until_by count (first_left d.log d.cursor hart)
     → pace ≡ pace_of until answer
-    → Keeps d ends (plain_of d image (slice_set counts place count))
+    → IsSeenAs d ends (plain_of d image (slice_set counts place count))
     × IsTurn (plain_of b image counts) (plain_of d image (slice_set counts place count)) (number_of r) n (told pace)
     × IsPart (plain_of d image (slice_set counts place count)) (number_of r) after
 turn_done b d ends image counts r after hart place n count until answer pace k part hart_is place_is makes log_is count_is until_is pace_is =
     let here : IsPartAdvanced (plain_of b image counts) hart n r = subst (λ h. IsPartAdvanced (plain_of b image counts) h n r) (sym hart_is) part in
     let x = turned b d ends image counts r after hart n answer k here makes log_is count until count_is until_is in
-    subst (λ i. Keeps d ends (plain_of d image (slice_set counts i count))
+    subst (λ i. IsSeenAs d ends (plain_of d image (slice_set counts i count))
     × IsTurn (plain_of b image counts) (plain_of d image (slice_set counts i count)) (number_of r) n (told pace)
     × IsPart (plain_of d image (slice_set counts i count)) (number_of r) after) (sym place_is) (
       x.0,
@@ -211,7 +211,7 @@ turn_done b d ends image counts r after hart place n count until answer pace k p
     )
 
 -- a board and its parts are a stage at the state that the board stands for
-pub staged : (stage : Replaying) (image : Image) (counts : List ℕ) → Keeps stage.board stage.ends (plain_of stage.board image counts)
+pub staged : (stage : Replaying) (image : Image) (counts : List ℕ) → IsSeenAs stage.board stage.ends (plain_of stage.board image counts)
     → AreParts (plain_of stage.board image counts) stage.runs.items → IsAt image stage (state_of (plain_of stage.board image counts))
 staged stage image counts k parts =
     let from : state_of (plain_of stage.board image counts) ≡ k.at = states_are (plain_of stage.board image counts) k.at k.reaches in

@@ -38,7 +38,7 @@ abbrev pub plain_of : Position → Image → List ℕ → Plain
 plain_of b image counts = record { log = b.log; image = image; places = b.cursor.places; counts = counts }
 
 -- it stands for the state to which the harts' turns led, and has the places of its end
-pub record Keeps (b : Position) (ends : Ends) (p : Plain) : Type 0 where
+pub record IsSeenAs (b : Position) (ends : Ends) (p : Plain) : Type 0 where
   pub at : Replay FlatState
   pub stands : Stands p.image b at
   pub reaches : Reaches p at

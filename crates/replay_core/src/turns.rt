@@ -34,13 +34,13 @@ pub struct ReplayBoard {
 
 impl Model for ReplayBoard {
     ghost use Rattle.replay_parts.specs.Boards as boards;
-    ghost use Rattle.replay_core.specs.Turns.{Keeps, plain_of};
+    ghost use Rattle.replay_core.specs.Turns.{IsSeenAs, plain_of};
 
     ghost Value = { boards.Plain };
 
     ghost view = { λ b. plain_of b.board b.image.value b.counts.items };
 
-    ghost invariant = { λ b. Keeps b.board b.ends (plain_of b.board b.image.value b.counts.items) };
+    ghost invariant = { λ b. IsSeenAs b.board b.ends (plain_of b.board b.image.value b.counts.items) };
 }
 
 /// The pace of a hart by what comes of its next item.

@@ -36,11 +36,11 @@ use Rattle.crew_recording.specs.Recording.{stream_in}
 use Rattle.crew_recording.proofs.Streams.{ended_at}
 use Rattle.room_laws.proofs.Judged.{order_sees_no_room}
 use Rattle.turn_model.specs.Board.{Terms}
-use Rattle.turn_model.specs.Lists.{Recorded}
+use Rattle.turn_model.specs.Lists.{RecordingEnd}
 use Rattle.turn_laws.specs.EndLaws.{IsFull, IsAtConsole, greatest}
 use Rattle.crew_parts.specs.Boards.{World, spent, terms_of}
 use Rattle.recorded_turns.specs.Recordings.{RecordsInRounds, IsRightBy}
-use Rattle.recorded_turns.proofs.Recorded.{rounds_are_right, rounds_are_not_cut}
+use Rattle.recorded_turns.proofs.Recordings.{rounds_are_right, rounds_are_not_cut}
 use Rattle.report_view.specs.Report.{report}
 use Rattle.revirt_tool.specs.Tasks.{Wish}
 use Rattle.revirt_tool.specs.Files.{IsFetched, IsUntouched}
@@ -175,8 +175,8 @@ module _ (w : Wish) (image : Image) (o p : World) (log : Log) (ended : Final) (j
   head same =
       let made = is.recorded spent (λ fault. (refl, refl)) in
       let closed = made.closed in
-      let there : closed.at.flat ≡ end.flat = sym (ap (λ (r : Recorded FlatState). r.ended) made.recorded) ∙ sym right.right.ended in
-      let streams = ap (λ (r : Recorded FlatState). r.log.streams) made.recorded in
+      let there : closed.at.flat ≡ end.flat = sym (ap (λ (r : RecordingEnd FlatState). r.ended) made.recorded) ∙ sym right.right.ended in
+      let streams = ap (λ (r : RecordingEnd FlatState). r.log.streams) made.recorded in
       let long : length closed.streams ≡ w.harts =
       sym (length-map (enumerate_from 0 closed.streams) _ ∙ length-enumerate_from 0 closed.streams) ∙ sym (ap length streams)
       ∙ length-map log.streams stream_without_room ∙ number in

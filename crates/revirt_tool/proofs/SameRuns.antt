@@ -8,7 +8,7 @@ use Rattle.log_entry.specs.declared.log.Log.{Log}
 use Rattle.log_format.specs.Grammar.{spelling}
 use Rattle.room_laws.proofs.Recordings.{bytes_see_no_room}
 use Rattle.turn_model.specs.Board.{Supply}
-use Rattle.turn_model.specs.Lists.{Recorded}
+use Rattle.turn_model.specs.Lists.{RecordingEnd}
 use Rattle.turn_model.specs.Rounds.{IsRecordedInRounds}
 use Rattle.turn_laws.proofs.GoingOn.{recorded_one}
 use Rattle.crew_parts.specs.Boards.{World, the_machine, spent, terms_of}
@@ -20,7 +20,7 @@ use Rattle.revirt_tool.specs.Complete.{SameAreKept}
 use Rattle.crew_parts.proofs.Turned.{then_spent}
 
 -- what the definitions make of what was given
-abbrev Made : Wish → World → List ℕ → Supply → Recorded FlatState → Type 0
+abbrev Made : Wish → World → List ℕ → Supply → RecordingEnd FlatState → Type 0
 Made w o file given r =
     let start = begun w (image_of w.pages file) o in
     IsRecordedInRounds the_machine (terms_of start) (board_before start given) r
@@ -42,8 +42,8 @@ same_are_kept w text also fault faulty s t u v o p q r one other file given =
     (made w other.file q r other.log (final_of other.end.flat other.log.cause) other.journal other.turns other.comes.run)) in
     let same = recorded_one the_machine (terms_of start) (board_before start one.comes.run.given) first second
     (made w one.file o p one.log (final_of one.end.flat one.log.cause) one.journal one.turns one.comes.run) also_made in
-    let flats = sym one.ends_there ∙ ap (λ (x : Recorded FlatState). x.ended) same ∙ other.ends_there in (
-      sym (bytes_see_no_room one.log) ∙ ap (λ (x : Recorded FlatState). spelling x.log) same ∙ bytes_see_no_room other.log,
+    let flats = sym one.ends_there ∙ ap (λ (x : RecordingEnd FlatState). x.ended) same ∙ other.ends_there in (
+      sym (bytes_see_no_room one.log) ∙ ap (λ (x : RecordingEnd FlatState). spelling x.log) same ∙ bytes_see_no_room other.log,
       flats,
-      one.reported ∙ ap₂ (λ s c. report (final_of s c)) flats (ap (λ (x : Recorded FlatState). x.log.cause) same) ∙ sym other.reported,
+      one.reported ∙ ap₂ (λ s c. report (final_of s c)) flats (ap (λ (x : RecordingEnd FlatState). x.log.cause) same) ∙ sym other.reported,
     )

@@ -17,7 +17,7 @@ use Rattle.replay_model.specs.Journal.{order_of, IsWantedGain, Throughout, IsLea
 use Rattle.replay_law.specs.Laws.{first_flat}
 use Rattle.replay_law.specs.Atomics.{item_atomics}
 use Rattle.turn_model.specs.Board.{Supply, Terms, log_with}
-use Rattle.turn_model.specs.Lists.{Recorded}
+use Rattle.turn_model.specs.Lists.{RecordingEnd}
 use Rattle.turn_model.specs.Laws.{HasTaken, IsRight}
 use Rattle.room_laws.specs.Items.{item_without_room}
 use Rattle.room_laws.specs.Laws.{IsJudgedAlike, IsReplayedAlike, ReplaysSeeNoRoom, BeginningsSeeNoRoom, AtomicsSeeNoRoom, RightSeesNoRoom, LeanSeesNoRoom}
@@ -56,11 +56,11 @@ atomics_see_no_room word log s (h ∷ order) =
     of_item = ap (item_atomics word s.flat h) (items_are (board (unit_of log)) log s h)
         ∙ item_atomics_is word s.flat h (next_item (board (unit_of log)) log s h)
 
-module _ (terms : Terms) (supply : Supply) (first : FlatState) (r : Recorded FlatState) (log : Log) where
-  abbrev bare : Recorded FlatState
+module _ (terms : Terms) (supply : Supply) (first : FlatState) (r : RecordingEnd FlatState) (log : Log) where
+  abbrev bare : RecordingEnd FlatState
   bare = record r { log = log_without_room log }
 
-  abbrev roomy : Recorded FlatState
+  abbrev roomy : RecordingEnd FlatState
   roomy = record r { log = log }
 
   alike : IsReplayedAlike (board (unit_of log)) log

@@ -25,7 +25,7 @@ use Rattle.replay_model.specs.Inputs.{Agree}
 use Rattle.replay_law.specs.Laws.{IsReplayable, first_replay}
 use Rattle.replay_law.specs.Atomics.{atomics_along}
 use Rattle.turn_model.specs.Board.{Supply, Terms}
-use Rattle.turn_model.specs.Lists.{Recorded}
+use Rattle.turn_model.specs.Lists.{RecordingEnd}
 use Rattle.turn_model.specs.Laws.{IsRight}
 use Rattle.lean_journals.specs.Laws.{IsLeanFrom}
 use Rattle.room_laws.specs.Items.{item_without_room}
@@ -101,12 +101,12 @@ AtomicsSeeNoRoom = (word : ℕ) (log : Log) (s : Replay FlatState) (order : List
 
 -- a recording of a log without room is right where it is with that log (docs/recorder.md)
 abbrev pub RightSeesNoRoom : Type 0
-RightSeesNoRoom = (terms : Terms) (supply : Supply) (first : FlatState) (r : Recorded FlatState) (log : Log) → r.log ≡ log_without_room log
+RightSeesNoRoom = (terms : Terms) (supply : Supply) (first : FlatState) (r : RecordingEnd FlatState) (log : Log) → r.log ≡ log_without_room log
     → IsRight terms supply first r → IsRight terms supply first (record r { log = log })
 
 -- and its journal is lean where it is with that log
 abbrev pub LeanSeesNoRoom : Type 0
-LeanSeesNoRoom = (first : FlatState) (r : Recorded FlatState) (log : Log) → r.log ≡ log_without_room log → IsLeanFrom first r
+LeanSeesNoRoom = (first : FlatState) (r : RecordingEnd FlatState) (log : Log) → r.log ≡ log_without_room log → IsLeanFrom first r
     → IsLeanFrom first (record r { log = log })
 
 -- a log is spelled by the same bytes without room (docs/log-format.md)

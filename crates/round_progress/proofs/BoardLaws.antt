@@ -12,7 +12,7 @@ use Rattle.std.proofs.lemmas.List.{length-replicate}
 use Rattle.shared_types.proofs.Lists.{is_nothing, none_there}
 use Rattle.crew_recording.proofs.Steady.{no_place}
 use Rattle.turn_model.specs.Board.{Board, Order, Supply, Terms, unit_in, board_at_start, harts, is_at_limit, is_over}
-use Rattle.turn_model.specs.Lists.{Recorded, leg_by, whole_leg}
+use Rattle.turn_model.specs.Lists.{RecordingEnd, leg_by, whole_leg}
 use Rattle.turn_model.specs.Rounds.{round, rounds, IsRecordedInRounds}
 use Rattle.turn_model.specs.Laws.{IsPagedBoard, machine_in}
 use Rattle.turn_model.proofs.BoardFacts.{board_faithful, board_sends, start_is_board, start_with}
@@ -149,7 +149,7 @@ module _ (terms : Terms) (image : Image) (harts : ℕ) (supply : Supply) (whole 
       ]
 
   -- rounds from the start lead to a recording
-  recorded_at : (n : ℕ) → 6 * harts * suc (2 * (harts * terms.limit) + 1) + 2 * harts ≤ n → n ≤ length supply.times → (r : Recorded FlatState)
+  recorded_at : (n : ℕ) → 6 * harts * suc (2 * (harts * terms.limit) + 1) + 2 * harts ≤ n → n ≤ length supply.times → (r : RecordingEnd FlatState)
       × (is : IsRecordedInRounds (machine_in terms) terms (board_at_start terms harts (flat_at_start image harts) supply) r)
       × (is.number ≤ suc (2 * (harts * terms.limit) + 1))
   recorded_at n l m =

@@ -10,7 +10,7 @@ use Rattle.orders_law.specs.Orders.{below}
 use Rattle.shared_types.proofs.Lists.{bound_to, not_chosen, unless}
 use Rattle.turn_model.specs.Recordable.{Recordable}
 use Rattle.turn_model.specs.Board.{Board, Supply, Terms, harts, is_at_limit, is_over}
-use Rattle.turn_model.specs.Lists.{Recorded, comes_to}
+use Rattle.turn_model.specs.Lists.{RecordingEnd, comes_to}
 use Rattle.turn_model.specs.Rounds.{round, rounds, IsRecordedInRounds}
 use Rattle.turn_model.specs.Faithful.{IsFaithful, AccessesSend}
 use Rattle.turn_model.proofs.LeanJournals.{WantsStay}
@@ -139,7 +139,7 @@ module _ {S V : Type 0} (machine : Recordable S V) (terms : Terms) (many : ℕ) 
 
   -- and to a recording
   pub recorded_there : (k : ℕ) (b : Board S) → rounds_left machine terms b ≤ k → Fine b → Has (6 * many * suc k + 2 * many) b
-      → has_leg machine terms b ≡ false → (r : Recorded S) × (is : IsRecordedInRounds machine terms b r) × (is.number ≤ suc k)
+      → has_leg machine terms b ≡ false → (r : RecordingEnd S) × (is : IsRecordedInRounds machine terms b r) × (is.number ≤ suc k)
   recorded_there k b l fine has none =
       let x = rounds_end k 0 (2 * many) b l fine has (λ _. none) in
       let size = length_below (length x.1.streams) in

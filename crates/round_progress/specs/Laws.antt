@@ -4,7 +4,7 @@ use Rattle.elf_image.specs.Image.{Image, IsWhole}
 use Rattle.flat_machine.specs.State.{FlatState}
 use Rattle.turn_model.specs.Board.{Board, Supply, Terms, count, is_over}
 use Rattle.turn_model.specs.Turn.{turn}
-use Rattle.turn_model.specs.Lists.{Recorded, whole_leg, recorded_by_list}
+use Rattle.turn_model.specs.Lists.{RecordingEnd, whole_leg, recorded_by_list}
 use Rattle.turn_model.specs.Rounds.{round, rounds, IsRecordedInRounds}
 use Rattle.turn_model.specs.Laws.{IsPagedBoard, OfHarts, machine_in, first_board}
 use Rattle.round_progress.specs.Measure.{rounds_left}
@@ -21,7 +21,7 @@ TurnsAreThere = (terms : Terms) (harts pages h n : ℕ) (b : Board FlatState)
 abbrev pub ListsAreRecorded : Type 0
 ListsAreRecorded = (terms : Terms) (image : Image) (harts : ℕ) (supply : Supply) (list : List (ℕ × ℕ))
     → OfHarts harts list → 2 * (length list + harts) ≤ length supply.times
-    → (r : Recorded FlatState) × (recorded_by_list (machine_in terms) terms list (first_board terms image harts supply) ≡ Some r)
+    → (r : RecordingEnd FlatState) × (recorded_by_list (machine_in terms) terms list (first_board terms image harts supply) ≡ Some r)
 
 -- so many rounds lead from the start of an image to this board
 abbrev pub IsBehindRounds : Terms → Image → ℕ → Supply → ℕ → Board FlatState → Type 0
@@ -81,5 +81,5 @@ most_rounds harts limit = 2 * (harts * limit) + 2
 abbrev pub RoundsAreRecorded : Type 0
 RoundsAreRecorded = (terms : Terms) (image : Image) (harts : ℕ) (supply : Supply)
     → IsWhole image → terms.pages ≡ image.pages → 6 * harts * most_rounds harts terms.limit + 2 * harts ≤ length supply.times
-    → (r : Recorded FlatState) × (is : IsRecordedInRounds (machine_in terms) terms (first_board terms image harts supply) r)
+    → (r : RecordingEnd FlatState) × (is : IsRecordedInRounds (machine_in terms) terms (first_board terms image harts supply) r)
     × (is.number ≤ most_rounds harts terms.limit)

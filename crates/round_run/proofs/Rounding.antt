@@ -23,7 +23,7 @@ use Rattle.recorded_turns.specs.Recordings.{InRounds, RecordsInRounds}
 use Rattle.recorded_turns.specs.Takes.{Takes}
 use Rattle.recorded_turns.proofs.Loops.{last_turns_are_taken, last_turns_leave, recordings_are_taken, rounds_are_taken, terms_stay}
 use Rattle.recorded_turns.proofs.Over.{first_round_is_taken, less_is_left, little_is_left, over_is_over}
-use Rattle.recorded_turns.proofs.Recorded.{comes_out}
+use Rattle.recorded_turns.proofs.Recordings.{comes_out}
 use Rattle.recorded_turns.proofs.Taking.{takes_none}
 use Rattle.recorder.specs.Manned.{IsManned, HasTurnOf, leg_in, still, without}
 use Rattle.recorder.proofs.Listing.{limits_of}

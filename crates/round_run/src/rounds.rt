@@ -12,7 +12,7 @@ use crate::legs::{Hands, counts_of, end_all, helpers, legs, next_legs, untils_of
 use crew_core::{OutOfMemory, Recorded};
 use elf_image::Image;
 use outside::{Clock, Console, Gate};
-use recorder::{PLACES, Recording};
+use recorder::{PLACES, Recorder};
 use rv_words::MAX_HARTS;
 use shared_types::NoMemory;
 use side_work::beside;
@@ -22,7 +22,7 @@ use std::thread::Threads;
 /// A turn of a hart, once another or itself is favoured.
 fn favoured_turn<C: Console, K: Clock>(
     alloc: Global,
-    recording: &mut Recording<C, K>,
+    recording: &mut Recorder<C, K>,
     favoured: u8,
     hart: u8,
 ) -> Result<(), NoMemory>
@@ -46,7 +46,7 @@ fn favoured_turn<C: Console, K: Clock>(
 /// A turn of each hart, from the round's on; before each the round's hart is favoured.
 fn sweep<C: Console, K: Clock>(
     alloc: Global,
-    recording: &mut Recording<C, K>,
+    recording: &mut Recorder<C, K>,
     round: u64,
 ) -> Result<(), NoMemory>
     requires round { round < 2 ^ 63 }
@@ -70,7 +70,7 @@ fn sweep<C: Console, K: Clock>(
 /// Three sweeps.
 fn round<C: Console, K: Clock>(
     alloc: Global,
-    recording: &mut Recording<C, K>,
+    recording: &mut Recorder<C, K>,
     number: u64,
 ) -> Result<(), NoMemory>
     requires number { number < 2 ^ 63 }
@@ -89,7 +89,7 @@ fn round<C: Console, K: Clock>(
 /// A recording in rounds under way.
 #[derive(Drop)]
 struct Rounds<C: Console, K: Clock> {
-    recording: Recording<C, K>,
+    recording: Recorder<C, K>,
     /// How many legs each hart has made.
     legs: [u64; PLACES],
     /// Where each hart stood at its latest turn.
@@ -237,7 +237,7 @@ pub fn record_rounds<T: Threads + Sync, C: Console, K: Clock, G: Gate>(
         (λ e. HasGiven (world (C.seen console) (K.seen clock)) (world (C.seen e.console) (K.seen e.clock))) }
 {
     let _ = image.pages();
-    let recording = Recording::start(alloc, image, harts, limit, log_limit, console, clock)?;
+    let recording = Recorder::start(alloc, image, harts, limit, log_limit, console, clock)?;
     let rounds = Rounds {
         recording,
         legs: [0; PLACES],

@@ -17,7 +17,7 @@ use Rattle.turn_model.specs.Board.{Board, Supply, Terms, unit_in, harts, closes,
 use Rattle.turn_model.specs.Laws.{IsPagedBoard, OfHarts, machine_in, first_board}
 use Rattle.turn_model.specs.Ways.{entered}
 use Rattle.turn_model.specs.Steps.{poll_at, yield_of, gain_of, touch_of}
-use Rattle.turn_model.specs.Lists.{Recorded, whole_leg, listed, closed_after, comes_to, recorded_by_list}
+use Rattle.turn_model.specs.Lists.{RecordingEnd, whole_leg, listed, closed_after, comes_to, recorded_by_list}
 use Rattle.turn_model.specs.Rounds.{IsRecordedInRounds}
 use Rattle.turn_model.specs.Turn.{turn}
 use Rattle.turn_model.proofs.Entries.{after_entry}
@@ -105,7 +105,7 @@ module _ (terms : Terms) (image : Image) (many : ℕ) (supply : Supply) (pages :
   size : (b : Board FlatState) → From b → length b.streams ≡ many
   size b from = (sound_of terms image many supply pages b (reached_is terms image many supply pages b from)).ordered.tidy.streams
 
-  pub lists_cut : (list : List (ℕ × ℕ)) (c : Board FlatState) (r : Recorded FlatState) → OfHarts many list
+  pub lists_cut : (list : List (ℕ × ℕ)) (c : Board FlatState) (r : RecordingEnd FlatState) → OfHarts many list
       → listed (machine_in terms) terms list (first_board terms image many supply) ≡ Some c
       → recorded_by_list (machine_in terms) terms list (first_board terms image many supply) ≡ Some r
       → (r.log.cause ≡ Cut → is_over (machine_in terms) terms c ≡ false) × (is_over (machine_in terms) terms c ≡ false → r.log.cause ≡ Cut)
@@ -118,7 +118,7 @@ module _ (terms : Terms) (image : Image) (many : ℕ) (supply : Supply) (pages :
       let last : closed_after (machine_in terms) terms c ≡ Some x.0 =
       subst (λ z. closed_after (machine_in terms) terms z ≡ Some x.0) (same_Some _ _ (sym y.1 ∙ is)) y.2 in
       let from = listed_leads (machine_in terms) terms many (λ b. NotCut b) not_cut_kept list first c not_cut_first of is in
-      subst (λ (z : Recorded FlatState). (z.log.cause ≡ Cut → is_over (machine_in terms) terms c ≡ false)
+      subst (λ (z : RecordingEnd FlatState). (z.log.cause ≡ Cut → is_over (machine_in terms) terms c ≡ false)
       × (is_over (machine_in terms) terms c ≡ false → z.log.cause ≡ Cut)) x.2 (by c x.0 from last (is_over (machine_in terms) terms c) refl)
     where
       by : (c d : Board FlatState) → NotCut c → closed_after (machine_in terms) terms c ≡ Some d → (p : Bool) → is_over (machine_in terms) terms c ≡ p
@@ -138,7 +138,7 @@ module _ (terms : Terms) (image : Image) (many : ℕ) (supply : Supply) (pages :
           (listed_carried (machine_in terms) terms rows (closes Cut c) d cut_first).shut Cut (ap (λ o. Some (unwrap_or o Cut)) none) in
           (λ _. short, λ _. ap (λ o. unwrap_or o Limit) shut.0)
 
-  pub rounds_not_cut : (r : Recorded FlatState) → IsRecordedInRounds (machine_in terms) terms (first_board terms image many supply) r → r.log.cause ≢ Cut
+  pub rounds_not_cut : (r : RecordingEnd FlatState) → IsRecordedInRounds (machine_in terms) terms (first_board terms image many supply) r → r.log.cause ≢ Cut
   rounds_not_cut r is =
       let over =
       rounds_lead (machine_in terms) terms many (λ b. NotCut b) not_cut_kept (λ b from. size b from.0) 0 is.number
@@ -146,4 +146,4 @@ module _ (terms : Terms) (image : Image) (many : ℕ) (supply : Supply) (pages :
       let closed =
       last_lead (machine_in terms) terms many (λ b. NotCut b) not_cut_kept (harts is.over) is.over is.closed over
       (each_below many (length is.over.streams) (let e = size is.over over.0 in omega (arith, e))) is.last in
-      λ e. cause_not_cut is.closed.closed closed.1 (sym (ap (λ (z : Recorded FlatState). z.log.cause) is.recorded) ∙ e)
+      λ e. cause_not_cut is.closed.closed closed.1 (sym (ap (λ (z : RecordingEnd FlatState). z.log.cause) is.recorded) ∙ e)

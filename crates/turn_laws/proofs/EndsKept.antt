@@ -40,7 +40,7 @@ use Rattle.run_model.specs.declared.asked.Ahead.TheVariants.{Free, Wants, AtDevi
 use Rattle.run_model.proofs.Laws.{ahead_agrees}
 use Rattle.turn_model.specs.Board.{Board, Order, Rest, Supply, Terms, unit_in, harts, closes, last_order, log_of}
 use Rattle.turn_model.specs.Board.{is_at_limit, is_over, board_at_start}
-use Rattle.turn_model.specs.Lists.{Recorded, leg_by, whole_leg, listed, closed_after, comes_to, recorded_by_list}
+use Rattle.turn_model.specs.Lists.{RecordingEnd, leg_by, whole_leg, listed, closed_after, comes_to, recorded_by_list}
 use Rattle.turn_model.specs.Rounds.{IsRecordedInRounds}
 use Rattle.turn_model.specs.Steps.{runs}
 use Rattle.turn_model.specs.Turn.{turn}
@@ -339,7 +339,7 @@ module _ (terms : Terms) (image : Image) (many : ℕ) (supply : Supply) (pages :
       of (Some x) cause e other = ap Some e
 
     -- the board of a recording by a list
-    pub list_board : (list : List (ℕ × ℕ)) (r : Recorded FlatState) → OfHarts many list
+    pub list_board : (list : List (ℕ × ℕ)) (r : RecordingEnd FlatState) → OfHarts many list
         → recorded_by_list (machine_in terms) terms list (first_board terms image many supply) ≡ Some r
         → (d : Board FlatState) × Kept d × (comes_to (machine_in terms) terms d ≡ r)
     list_board list r of recorded =
@@ -359,7 +359,7 @@ module _ (terms : Terms) (image : Image) (many : ℕ) (supply : Supply) (pages :
               tells_other (closes Cut c) Cut (ap (λ o. Some (unwrap_or o Cut)) none) (λ z. let no : ⊥ = cc in no) (λ z. let no : ⊥ = cc in no),
             )
 
-    pub rounds_board : (r : Recorded FlatState) → IsRecordedInRounds (machine_in terms) terms (first_board terms image many supply) r
+    pub rounds_board : (r : RecordingEnd FlatState) → IsRecordedInRounds (machine_in terms) terms (first_board terms image many supply) r
         → (d : Board FlatState) × Kept d × (r ≡ comes_to (machine_in terms) terms d)
     rounds_board r is =
         let over =
@@ -370,19 +370,19 @@ module _ (terms : Terms) (image : Image) (many : ℕ) (supply : Supply) (pages :
         (each_below many (length is.over.streams) (let e = size is.over over.0 in omega (arith, e))) is.last in
         (is.closed, closed, is.recorded)
 
-    pub list_tells : (list : List (ℕ × ℕ)) (r : Recorded FlatState) → OfHarts many list
+    pub list_tells : (list : List (ℕ × ℕ)) (r : RecordingEnd FlatState) → OfHarts many list
         → recorded_by_list (machine_in terms) terms list (first_board terms image many supply) ≡ Some r → CauseTells terms r
     list_tells list r of recorded = let d = list_board list r of recorded in subst (CauseTells terms) d.2 (comes d.0 d.1)
 
-    pub rounds_tell : (r : Recorded FlatState) → IsRecordedInRounds (machine_in terms) terms (first_board terms image many supply) r → CauseTells terms r
+    pub rounds_tell : (r : RecordingEnd FlatState) → IsRecordedInRounds (machine_in terms) terms (first_board terms image many supply) r → CauseTells terms r
     rounds_tell r is = let d = rounds_board r is in subst (CauseTells terms) (sym d.2) (comes d.0 d.1)
 
-    pub list_in_range : AreInLimits terms image many → (list : List (ℕ × ℕ)) (r : Recorded FlatState) → OfHarts many list
+    pub list_in_range : AreInLimits terms image many → (list : List (ℕ × ℕ)) (r : RecordingEnd FlatState) → OfHarts many list
         → recorded_by_list (machine_in terms) terms list (first_board terms image many supply) ≡ Some r → in_range r.log ≡ true
     list_in_range limits list r of recorded = let d = list_board list r of recorded in
-        ap (λ (z : Recorded FlatState). in_range z.log) (sym d.2) ∙ board_in_range limits d.0 d.1.0
+        ap (λ (z : RecordingEnd FlatState). in_range z.log) (sym d.2) ∙ board_in_range limits d.0 d.1.0
 
-    pub rounds_in_range : AreInLimits terms image many → (r : Recorded FlatState)
+    pub rounds_in_range : AreInLimits terms image many → (r : RecordingEnd FlatState)
         → IsRecordedInRounds (machine_in terms) terms (first_board terms image many supply) r → in_range r.log ≡ true
     rounds_in_range limits r is = let d = rounds_board r is in
-        ap (λ (z : Recorded FlatState). in_range z.log) d.2 ∙ board_in_range limits d.0 d.1.0
+        ap (λ (z : RecordingEnd FlatState). in_range z.log) d.2 ∙ board_in_range limits d.0 d.1.0

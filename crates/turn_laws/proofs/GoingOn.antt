@@ -9,7 +9,7 @@ use Rattle.turn_model.specs.Recordable.{Recordable}
 use Rattle.turn_model.specs.Board.{Board, Supply, Terms, harts, is_over}
 use Rattle.turn_model.specs.Turn.{turn}
 use Rattle.turn_laws.specs.Supplies.{followed_by}
-use Rattle.turn_model.specs.Lists.{Recorded, whole_leg, listed, comes_to}
+use Rattle.turn_model.specs.Lists.{RecordingEnd, whole_leg, listed, comes_to}
 use Rattle.turn_model.specs.Rounds.{with_favoured, sweep, round, rounds, last_turns, IsRecordedInRounds}
 
 -- what is to be given, in three parts
@@ -66,7 +66,7 @@ module _ {S V : Type 0} (machine : Recordable S V) (terms : Terms) where
       (unless (is_over machine terms b) (next_round r m b) p is') in
       rounds_one (r + 1) n m x.0 o p x.2 over (subst (λ z. rounds machine terms (r + 1) m z ≡ Some p) (same_Some _ _ (sym y.1 ∙ x.1)) y.2) over'
 
-  pub recorded_one : (b : Board S) (r s : Recorded S) → IsRecordedInRounds machine terms b r → IsRecordedInRounds machine terms b s → r ≡ s
+  pub recorded_one : (b : Board S) (r s : RecordingEnd S) → IsRecordedInRounds machine terms b r → IsRecordedInRounds machine terms b s → r ≡ s
   recorded_one b r s is is' =
       let same = rounds_one 0 is.number is'.number b is.over is'.over is.are_made is.is_over is'.are_made is'.is_over in
       let closed : is.closed ≡ is'.closed =

@@ -23,7 +23,7 @@ use Rattle.turn_model.specs.Ways.{Way, On, Ends, Nowhere, goes, on, has_room, wi
 use Rattle.turn_model.specs.Steps.{passes, passes_favour, with_want, runs, console_gives, clock_gives, clock_answers, rests_where_closed, rests_at_limit}
 use Rattle.turn_model.specs.Steps.{is_due, poll_at, polls_with, polls, yield_of, yields_now, yields_for, yields_to, yields, gain_of, gains_unless, gains_page}
 use Rattle.turn_model.specs.Steps.{gains, touch_of, behind_touch, touched, touches_at, touches_with, accesses, touches, goes_on, steps}
-use Rattle.turn_model.specs.Lists.{Recorded, whole_leg, listed, cut, closed_after, comes_to, recorded_by_list}
+use Rattle.turn_model.specs.Lists.{RecordingEnd, whole_leg, listed, cut, closed_after, comes_to, recorded_by_list}
 use Rattle.turn_model.specs.Rounds.{round_from, with_favoured, sweep, round, rounds, last_turns, IsRecordedInRounds}
 use Rattle.turn_model.specs.Turn.{turn, ended_by}
 use Rattle.turn_laws.specs.Supplies.{followed_by, with_more, HasFailed, Extends, WithMore, Always, NoAnswer, NotTaken, IsExtended, IsCarried, IsCarriedStep}
@@ -558,7 +558,7 @@ module _ {S V : Type 0} (machine : Recordable S V) (terms : Terms) where
         one m false e = turn_carried machine terms h n b m e
 
   -- recordings
-  pub list_recorded : (list : List (ℕ × ℕ)) (b : Board S) (r : Recorded S) → recorded_by_list machine terms list b ≡ Some r
+  pub list_recorded : (list : List (ℕ × ℕ)) (b : Board S) (r : RecordingEnd S) → recorded_by_list machine terms list b ≡ Some r
       → (c : Board S) × (r ≡ comes_to machine terms c)
       × WithMore (λ x. recorded_by_list machine terms list (with_more x b) ≡ Some (comes_to machine terms (with_more x c))) b c
   list_recorded list b r is =
@@ -573,7 +573,7 @@ module _ {S V : Type 0} (machine : Recordable S V) (terms : Terms) where
             (λ x e. ap (option_map (comes_to machine terms)) e) one.extended,
       )
 
-  pub rounds_recorded : (b : Board S) (r : Recorded S) → IsRecordedInRounds machine terms b r
+  pub rounds_recorded : (b : Board S) (r : RecordingEnd S) → IsRecordedInRounds machine terms b r
       → (c : Board S) × (r ≡ comes_to machine terms c)
       × WithMore (λ x. IsRecordedInRounds machine terms (with_more x b) (comes_to machine terms (with_more x c))) b c
   rounds_recorded b r is =

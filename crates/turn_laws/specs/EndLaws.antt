@@ -14,7 +14,7 @@ use Rattle.log_entry.specs.Parts.{unit_of}
 use Rattle.log_entry.specs.Size.{size_in, size_of_log, frame_size}
 use Rattle.log_entry.specs.Range.{in_range}
 use Rattle.turn_model.specs.Board.{Board, Supply, Terms, unit_in, log_of}
-use Rattle.turn_model.specs.Lists.{Recorded, recorded_by_list}
+use Rattle.turn_model.specs.Lists.{RecordingEnd, recorded_by_list}
 use Rattle.turn_model.specs.Rounds.{IsRecordedInRounds}
 use Rattle.turn_model.specs.Laws.{OfHarts, machine_in, first_board}
 use Rattle.turn_laws.specs.Laws.{IsReachable, IsTurnFrom}
@@ -52,20 +52,20 @@ FaultIsAtConsole = (terms : Terms) (image : Image) (harts : ℕ) (supply : Suppl
     → b.closed ≡ None → d.closed ≡ Some Fault → IsAtConsole terms harts d.at.flat
 
 -- what the cause of a recording says of its log and its end
-pub record CauseTells (terms : Terms) (r : Recorded FlatState) : Type 0 where
+pub record CauseTells (terms : Terms) (r : RecordingEnd FlatState) : Type 0 where
   pub full : r.log.cause ≡ Full → IsFull terms r.log
   pub fault : r.log.cause ≡ Fault → IsAtConsole terms (length r.log.streams) r.ended
 
 -- So it does of a recording by a list, and of one in rounds: turns behind the one that closed the board leave it.
 abbrev pub ListsTell : Type 0
 ListsTell = (terms : Terms) (image : Image) (harts : ℕ) (supply : Supply) (list : List (ℕ × ℕ))
-    (r : Recorded FlatState)
+    (r : RecordingEnd FlatState)
     → IsWhole image → terms.pages ≡ image.pages → harts ≤ MAX_HARTS → OfHarts harts list
     → recorded_by_list (machine_in terms) terms list (first_board terms image harts supply) ≡ Some r
     → CauseTells terms r
 
 abbrev pub RoundsTell : Type 0
-RoundsTell = (terms : Terms) (image : Image) (harts : ℕ) (supply : Supply) (r : Recorded FlatState)
+RoundsTell = (terms : Terms) (image : Image) (harts : ℕ) (supply : Supply) (r : RecordingEnd FlatState)
     → IsWhole image → terms.pages ≡ image.pages → harts ≤ MAX_HARTS
     → IsRecordedInRounds (machine_in terms) terms (first_board terms image harts supply) r → CauseTells terms r
 
@@ -87,11 +87,11 @@ BoardsAreInRange = (terms : Terms) (image : Image) (harts : ℕ) (supply : Suppl
 -- So can the log of each recording.
 abbrev pub ListsAreInRange : Type 0
 ListsAreInRange = (terms : Terms) (image : Image) (harts : ℕ) (supply : Supply) (list : List (ℕ × ℕ))
-    (r : Recorded FlatState) → AreInLimits terms image harts → OfHarts harts list
+    (r : RecordingEnd FlatState) → AreInLimits terms image harts → OfHarts harts list
     → recorded_by_list (machine_in terms) terms list (first_board terms image harts supply) ≡ Some r
     → in_range r.log ≡ true
 
 abbrev pub RoundsAreInRange : Type 0
-RoundsAreInRange = (terms : Terms) (image : Image) (harts : ℕ) (supply : Supply) (r : Recorded FlatState)
+RoundsAreInRange = (terms : Terms) (image : Image) (harts : ℕ) (supply : Supply) (r : RecordingEnd FlatState)
     → AreInLimits terms image harts
     → IsRecordedInRounds (machine_in terms) terms (first_board terms image harts supply) r → in_range r.log ≡ true

@@ -29,7 +29,7 @@ use Rattle.turn_model.specs.Claims.{clash, holds_so, known, needed, claims_again
 use Rattle.turn_model.specs.Ways.{Way, On, goes, entered, log_size}
 use Rattle.turn_model.specs.Steps.{runs, next_number, next_poll, gain_of, steps}
 use Rattle.turn_model.specs.Turn.{turn}
-use Rattle.turn_model.specs.Lists.{Recorded, leg, whole_leg, listed, closed_after, comes_to, recorded_by_list}
+use Rattle.turn_model.specs.Lists.{RecordingEnd, leg, whole_leg, listed, closed_after, comes_to, recorded_by_list}
 use Rattle.turn_model.specs.Rounds.{round_from, sweep, round, rounds, last_turns, IsRecordedInRounds}
 use Rattle.turn_model.specs.Laws.{IsPagedBoard, OfHarts, machine_in, first_board, EachBelow}
 use Rattle.turn_laws.specs.Supplies.{IsSpent, followed_by, with_more, WithMore, IsCarried, IsCarriedStep, AreCarried}
@@ -78,13 +78,13 @@ StepsGoOn = (steps : List (Board FlatState → Way FlatState)) → AreCarried st
 
 -- And recordings, of the boards that they come of.
 abbrev pub RecordingsExtend : Type 0
-RecordingsExtend = (terms : Terms) (list : List (ℕ × ℕ)) (b : Board FlatState) (r : Recorded FlatState)
+RecordingsExtend = (terms : Terms) (list : List (ℕ × ℕ)) (b : Board FlatState) (r : RecordingEnd FlatState)
     → recorded_by_list (machine_in terms) terms list b ≡ Some r
     → (c : Board FlatState) × (r ≡ comes_to (machine_in terms) terms c)
     × WithMore (λ x. recorded_by_list (machine_in terms) terms list (with_more x b) ≡ Some (comes_to (machine_in terms) terms (with_more x c))) b c
 
 abbrev pub RecordingsInRoundsExtend : Type 0
-RecordingsInRoundsExtend = (terms : Terms) (b : Board FlatState) (r : Recorded FlatState) → IsRecordedInRounds (machine_in terms) terms b r
+RecordingsInRoundsExtend = (terms : Terms) (b : Board FlatState) (r : RecordingEnd FlatState) → IsRecordedInRounds (machine_in terms) terms b r
     → (c : Board FlatState) × (r ≡ comes_to (machine_in terms) terms c)
     × WithMore (λ x. IsRecordedInRounds (machine_in terms) terms (with_more x b) (comes_to (machine_in terms) terms (with_more x c))) b c
 
@@ -268,19 +268,19 @@ TurnsClose = (terms : Terms) (image : Image) (harts : ℕ) (supply : Supply) (g 
 -- So a recording by a list is cut exactly where the list ended before the board was over.
 abbrev pub ListsAreCut : Type 0
 ListsAreCut = (terms : Terms) (image : Image) (harts : ℕ) (supply : Supply) (list : List (ℕ × ℕ)) (c : Board FlatState)
-    (r : Recorded FlatState) → terms.pages ≡ image.pages → OfHarts harts list
+    (r : RecordingEnd FlatState) → terms.pages ≡ image.pages → OfHarts harts list
     → listed (machine_in terms) terms list (first_board terms image harts supply) ≡ Some c
     → recorded_by_list (machine_in terms) terms list (first_board terms image harts supply) ≡ Some r
     → (r.log.cause ≡ Cut → is_over (machine_in terms) terms c ≡ false) × (is_over (machine_in terms) terms c ≡ false → r.log.cause ≡ Cut)
 
 -- And one in rounds never is.
 abbrev pub RoundsAreNotCut : Type 0
-RoundsAreNotCut = (terms : Terms) (image : Image) (harts : ℕ) (supply : Supply) (r : Recorded FlatState) → terms.pages ≡ image.pages
+RoundsAreNotCut = (terms : Terms) (image : Image) (harts : ℕ) (supply : Supply) (r : RecordingEnd FlatState) → terms.pages ≡ image.pages
     → IsRecordedInRounds (machine_in terms) terms (first_board terms image harts supply) r → r.log.cause ≢ Cut
 
 -- A board has one recording in rounds at most.
 abbrev pub RoundsAreOne : Type 0
-RoundsAreOne = (terms : Terms) (b : Board FlatState) (r s : Recorded FlatState) → IsRecordedInRounds (machine_in terms) terms b r
+RoundsAreOne = (terms : Terms) (b : Board FlatState) (r s : RecordingEnd FlatState) → IsRecordedInRounds (machine_in terms) terms b r
     → IsRecordedInRounds (machine_in terms) terms b s → r ≡ s
 
 -- An entry adds its size to the log's.

@@ -15,7 +15,7 @@ use Rattle.replay_model.specs.Outcome.{cause_agrees}
 use Rattle.turn_model.specs.Recordable.{Recordable}
 use Rattle.turn_model.specs.Board.{Board, Terms, Supply, harts, closes, is_at_limit, is_over, log_of}
 use Rattle.turn_model.specs.Turn.{turn}
-use Rattle.turn_model.specs.Lists.{Recorded, whole_leg, listed, comes_to, closed_after, recorded_by_list}
+use Rattle.turn_model.specs.Lists.{RecordingEnd, whole_leg, listed, comes_to, closed_after, recorded_by_list}
 use Rattle.turn_model.specs.Faithful.{IsFaithful, AccessesSend}
 use Rattle.turn_model.specs.Laws.{OfHarts}
 use Rattle.turn_model.proofs.Ways.{recording_of}
@@ -154,7 +154,7 @@ module _ {S V : Type 0} (machine : Recordable S V) (terms : Terms) (many : ℕ) 
         running : b.closed ≡ None → ClosedSo machine terms many terms.pages Good faithful b b.closed → machine.flat.is_stopped b.at.flat ≡ false
         running none so = subst (ClosedSo machine terms many terms.pages Good faithful b) none so
 
-  pub recorded : IsFresh first → (list : List (ℕ × ℕ)) (r : Recorded S) → OfHarts many list
+  pub recorded : IsFresh first → (list : List (ℕ × ℕ)) (r : RecordingEnd S) → OfHarts many list
       → recorded_by_list machine terms list (begin machine terms many Good faithful first supply good unmoved) ≡ Some r
       → (d : Board S) × Reached d × Agrees d × (comes_to machine terms d ≡ r)
   recorded fresh list r of is =

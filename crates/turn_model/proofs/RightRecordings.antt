@@ -11,7 +11,7 @@ use Rattle.crew_recording.proofs.Steady.{no_place}
 use Rattle.replay_model.specs.State.{start}
 use Rattle.replay_model.specs.Outcome.{cause_agrees}
 use Rattle.turn_model.specs.Board.{Board, Supply, Terms, unit_in, board_at_start, log_of}
-use Rattle.turn_model.specs.Lists.{Recorded, comes_to, recorded_by_list}
+use Rattle.turn_model.specs.Lists.{RecordingEnd, comes_to, recorded_by_list}
 use Rattle.turn_model.specs.Rounds.{IsRecordedInRounds}
 use Rattle.turn_model.specs.Recordable.{Recordable}
 use Rattle.turn_model.specs.Faithful.{IsFaithful}
@@ -70,20 +70,20 @@ module _ (terms : Terms) (image : Image) (harts : ℕ) (supply : Supply) (pages 
       }
 
   -- a board that turns reached, at whose end the cause agrees, comes to a recording
-  abbrev pub ComesTo : Recorded FlatState → Type 0
+  abbrev pub ComesTo : RecordingEnd FlatState → Type 0
   ComesTo r = (d : Board FlatState) × ReachedB d × (cause_agrees (board (unit_in terms)) (log_of machine terms d) d.at.flat ≡ true)
       × (comes_to machine terms d ≡ r)
 
-  pub list_comes : (list : List (ℕ × ℕ)) (r : Recorded FlatState) → OfHarts harts list
+  pub list_comes : (list : List (ℕ × ℕ)) (r : RecordingEnd FlatState) → OfHarts harts list
       → recorded_by_list machine terms list (board_at_start terms harts first supply) ≡ Some r → ComesTo r
   list_comes list r of is = recorded machine terms harts Good faithful first supply starts (no_place harts) (board_sends (unit_in terms))
       (refl, refl, refl) list r of is
 
-  pub rounds_come : (r : Recorded FlatState) → IsRecordedInRounds machine terms (board_at_start terms harts first supply) r → ComesTo r
+  pub rounds_come : (r : RecordingEnd FlatState) → IsRecordedInRounds machine terms (board_at_start terms harts first supply) r → ComesTo r
   rounds_come r is = recorded_in_rounds machine terms harts Good faithful first supply starts (no_place harts) (board_sends (unit_in terms))
       (refl, refl, refl) r is
 
-  right_where_reached : (r : Recorded FlatState) → ComesTo r → IsRight terms supply first r
+  right_where_reached : (r : RecordingEnd FlatState) → ComesTo r → IsRight terms supply first r
   right_where_reached r reached = subst (IsRight terms supply first) reached.3 (all_right reached.0 reached.1 reached.2)
 
 pub recordings_are_right : RecordingsAreRight

@@ -9,7 +9,7 @@ use Rattle.orders_law.specs.Orders.{below}
 use Rattle.turn_model.specs.Recordable.{Recordable}
 use Rattle.turn_model.specs.Board.{Board, Terms, Supply, harts, is_over}
 use Rattle.turn_model.specs.Turn.{turn}
-use Rattle.turn_model.specs.Lists.{Recorded, whole_leg, comes_to}
+use Rattle.turn_model.specs.Lists.{RecordingEnd, whole_leg, comes_to}
 use Rattle.turn_model.specs.Rounds.{round_from, with_favoured, sweep, round, rounds, last_turns, IsRecordedInRounds}
 use Rattle.turn_model.specs.Faithful.{IsFaithful, AccessesSend}
 use Rattle.turn_model.proofs.Ways.{recording_of}
@@ -116,7 +116,7 @@ module _ {S V : Type 0} (machine : Recordable S V) (terms : Terms) (many : ℕ) 
       (if whole_leg machine terms h b == 0 then Some b else turn machine terms h (whole_leg machine terms h b) b) c is in
       last_come hs m.0 c each.1 (last_one h (whole_leg machine terms h b == 0) b m.0 each.0 p m.1) m.2
 
-  pub recorded_in_rounds : IsFresh machine terms many Good faithful first supply good unmoved sends first → (r : Recorded S)
+  pub recorded_in_rounds : IsFresh machine terms many Good faithful first supply good unmoved sends first → (r : RecordingEnd S)
       → IsRecordedInRounds machine terms (begin machine terms many Good faithful first supply good unmoved) r
       → (d : Board S) × Reached machine terms many Good faithful first supply good unmoved sends d
       × Agrees machine terms many Good faithful first supply good unmoved sends d × (comes_to machine terms d ≡ r)

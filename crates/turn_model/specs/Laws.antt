@@ -18,7 +18,7 @@ use Rattle.replay_model.specs.Inputs.{Agree}
 use Rattle.replay_model.specs.Outcome.{Done, outcome_at}
 use Rattle.turn_model.specs.Recordable.{Recordable, board_machine}
 use Rattle.turn_model.specs.Board.{Board, Supply, Terms, unit_in, log_with, board_at_start}
-use Rattle.turn_model.specs.Lists.{Recorded, recorded_by_list}
+use Rattle.turn_model.specs.Lists.{RecordingEnd, recorded_by_list}
 use Rattle.turn_model.specs.Rounds.{IsRecordedInRounds}
 
 -- a flat state of a board with so many harts and pages
@@ -38,7 +38,7 @@ OfHarts harts [] = Unit {0}
 OfHarts harts (row ∷ list) = (row.0 < harts) × OfHarts harts list
 
 -- a recording took a first part of what console and clock had to give, and left the rest; its log agrees with what it took
-pub record HasTaken (supply : Supply) (r : Recorded FlatState) : Type 0 where
+pub record HasTaken (supply : Supply) (r : RecordingEnd FlatState) : Type 0 where
   pub asked : List Asked
   pub times : List ℕ
   pub answers_are : supply.answers ≡ asked ++ r.left.answers
@@ -50,7 +50,7 @@ pub record HasTaken (supply : Supply) (r : Recorded FlatState) : Type 0 where
 -- alone does, and is orderly; its journal obeys it, leads to the end that is recorded, and is full, and each Gain along it is the
 -- want of its hart; at the end every hart has ended, and the cause agrees with the state; the journal's acts drive the flat machine
 -- there; and the log agrees with console and clock
-pub record IsRight (terms : Terms) (supply : Supply) (first : FlatState) (r : Recorded FlatState) : Type 0 where
+pub record IsRight (terms : Terms) (supply : Supply) (first : FlatState) (r : RecordingEnd FlatState) : Type 0 where
   pub terms_are : r.log ≡ log_with terms r.log.streams r.log.cause
   pub harts_are : length r.log.streams ≡ length first.harts
   pub size : frame_size (unit_of r.log) (length r.log.streams) ≤ terms.log_limit → size_of_log (unit_of r.log) r.log.streams ≤ terms.log_limit
@@ -72,13 +72,13 @@ first_board terms image harts supply = board_at_start terms harts (flat_at_start
 
 -- so is every recording of an image by a list of turns, whatever console and clock have to give
 abbrev pub RecordingsAreRight : Type 0
-RecordingsAreRight = (terms : Terms) (image : Image) (harts : ℕ) (supply : Supply) (list : List (ℕ × ℕ)) (r : Recorded FlatState)
+RecordingsAreRight = (terms : Terms) (image : Image) (harts : ℕ) (supply : Supply) (list : List (ℕ × ℕ)) (r : RecordingEnd FlatState)
     → terms.pages ≡ image.pages → OfHarts harts list
     → recorded_by_list (machine_in terms) terms list (first_board terms image harts supply) ≡ Some r
     → IsRight terms supply (flat_at_start image harts) r
 
 -- and every recording of it in rounds
 abbrev pub RoundsAreRight : Type 0
-RoundsAreRight = (terms : Terms) (image : Image) (harts : ℕ) (supply : Supply) (r : Recorded FlatState)
+RoundsAreRight = (terms : Terms) (image : Image) (harts : ℕ) (supply : Supply) (r : RecordingEnd FlatState)
     → terms.pages ≡ image.pages → IsRecordedInRounds (machine_in terms) terms (first_board terms image harts supply) r
     → IsRight terms supply (flat_at_start image harts) r

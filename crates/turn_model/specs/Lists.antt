@@ -11,7 +11,7 @@ use Rattle.turn_model.specs.Turn.{turn}
 
 -- what a recording comes to: the log, the journal, the turns, the flat state at the end, and what console and clock have still to
 -- give there
-pub record Recorded (S : Type 0) : Type 0 where
+pub record RecordingEnd (S : Type 0) : Type 0 where
   pub log : Log
   pub journal : List (ℕ × ℕ)
   pub turns : List (ℕ × ℕ)
@@ -40,12 +40,12 @@ module _ {S V : Type 0} (machine : Recordable S V) (terms : Terms) where
   abbrev pub cut : Board S → Board S
   cut b = if is_over machine terms b then b else closes Cut b
 
-  abbrev pub comes_to : Board S → Recorded S
+  abbrev pub comes_to : Board S → RecordingEnd S
   comes_to b = record { log = log_of machine terms b; journal = b.journal; turns = b.turns; ended = b.at.flat; left = b.supply }
 
   -- behind the list the board is cut, unless it is over, and each hart has a turn without moves
   abbrev pub closed_after : Board S → Option (Board S)
   closed_after b = listed (map (λ h. (h, 0)) (harts b)) (cut b)
 
-  abbrev pub recorded_by_list : List (ℕ × ℕ) → Board S → Option (Recorded S)
+  abbrev pub recorded_by_list : List (ℕ × ℕ) → Board S → Option (RecordingEnd S)
   recorded_by_list list b = option_map comes_to (option_and_then closed_after (listed list b))

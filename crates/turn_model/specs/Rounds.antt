@@ -4,7 +4,7 @@ use Rattle.std.specs.Option.{option_and_then}
 use Rattle.turn_model.specs.Recordable.{Recordable}
 use Rattle.turn_model.specs.Board.{Board, Terms, harts, is_over}
 use Rattle.turn_model.specs.Turn.{turn}
-use Rattle.turn_model.specs.Lists.{Recorded, whole_leg, comes_to}
+use Rattle.turn_model.specs.Lists.{RecordingEnd, whole_leg, comes_to}
 
 -- the harts of a board, from this one on and round
 abbrev pub round_from : {S : Type 0} → ℕ → Board S → List ℕ
@@ -36,7 +36,7 @@ module _ {S V : Type 0} (machine : Recordable S V) (terms : Terms) where
       (if whole_leg machine terms h b == 0 then Some b else turn machine terms h (whole_leg machine terms h b) b)
 
   -- rounds until the board is over, and the last turns, lead from a board to this recording
-  pub record IsRecordedInRounds (b : Board S) (r : Recorded S) : Type 0 where
+  pub record IsRecordedInRounds (b : Board S) (r : RecordingEnd S) : Type 0 where
     pub number : ℕ
     pub over : Board S
     pub closed : Board S

@@ -12,7 +12,7 @@ use Rattle.order_rules.specs.Worked.{log_of, gain, from, race_log}
 use Rattle.replay_model.specs.Worked.{Scripted, first, ended, stopping, racing, stop_log, race_journal}
 use Rattle.turn_model.specs.Recordable.{Recordable}
 use Rattle.turn_model.specs.Board.{Supply, Terms, board_at_start}
-use Rattle.turn_model.specs.Lists.{Recorded, recorded_by_list}
+use Rattle.turn_model.specs.Lists.{RecordingEnd, recorded_by_list}
 use Rattle.turn_model.specs.Rounds.{IsRecordedInRounds}
 
 -- a hart that stores 7 to STOP in its third move
@@ -50,7 +50,7 @@ writing_log = log_of 1 12 Limit (
 abbrev pub fives : ℕ → Supply
 fives n = record { answers = []; takes = 0; times = replicate n 5 }
 
-abbrev pub by_list : Recordable Scripted ℕ → Terms → ℕ → Supply → List (ℕ × ℕ) → Option (Recorded Scripted)
+abbrev pub by_list : Recordable Scripted ℕ → Terms → ℕ → Supply → List (ℕ × ℕ) → Option (RecordingEnd Scripted)
 by_list machine terms harts supply list = recorded_by_list machine terms list (board_at_start terms harts (first harts) supply)
 
 abbrev pub race_list : List (ℕ × ℕ)
@@ -125,7 +125,7 @@ modes_log = log_of 2 2 Cut (
     ∷ [])
 
 -- the log, the journal and the end of a recording
-abbrev pub seen : Recorded Scripted → Log × List (ℕ × ℕ) × Scripted
+abbrev pub seen : RecordingEnd Scripted → Log × List (ℕ × ℕ) × Scripted
 seen r = (r.log, r.journal, r.ended)
 
 pub record AreRecorded : Type 0 where

@@ -1,4 +1,4 @@
-use Rattle.recorded_turns.proofs.Recorded.{lists_are_right, rounds_are_right, lists_are_cut, rounds_are_not_cut, rounds_are_one}
+use Rattle.recorded_turns.proofs.Recordings.{lists_are_right, rounds_are_right, lists_are_cut, rounds_are_not_cut, rounds_are_one}
 use Rattle.recorded_turns.proofs.recordings_are_right.Goals as goal
 
 pub returns-clause-lists : goal.returns-clause-lists

@@ -1,6 +1,6 @@
 use Rattle.recorder.specs.Manned.{row_moves}
 use Rattle.recorder.proofs.Listing.{row_had}
-use Rattle.recorder.proofs.crewed.Recording.row.Goals as goal
+use Rattle.recorder.proofs.crewed.Recorder.row.Goals as goal
 
 pub returns-clause-taken : goal.returns-clause-taken
 returns-clause-taken g c =

@@ -1,6 +1,6 @@
 use Rattle.recorder.proofs.Listing.{cut_gives, cut_is_manned, list_taken}
 use Rattle.recorder.proofs.Manning.{given_then}
-use Rattle.recorder.proofs.crewed.Recording.list.Goals as goal
+use Rattle.recorder.proofs.crewed.Recorder.list.Goals as goal
 
 pub rests-requires-after_bounds : goal.rests-requires-after_bounds
 rests-requires-after_bounds g c κs within =

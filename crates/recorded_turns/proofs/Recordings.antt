@@ -14,7 +14,7 @@ use Rattle.flat_machine.specs.State.{FlatState, flat_at_start}
 use Rattle.flat_machine.specs.Runs.{final_of}
 use Rattle.flat_machine.specs.declared.results.Final.{Final}
 use Rattle.turn_model.specs.Board.{Board, Supply, Terms}
-use Rattle.turn_model.specs.Lists.{Recorded, comes_to}
+use Rattle.turn_model.specs.Lists.{RecordingEnd, comes_to}
 use Rattle.turn_model.specs.Laws.{IsRight, OfHarts}
 use Rattle.turn_model.specs.Rounds.{IsRecordedInRounds}
 use Rattle.turn_model.proofs.RightRecordings.{recordings_are_right}
@@ -41,7 +41,7 @@ counts_by : (o : Option Cause) (x y : ℕ) → CountsFaults None o x y → Count
 counts_by None x y e = e
 counts_by (Some cause) x y e = e
 
-pub comes_out : {Kind : Terms → Board FlatState → Recorded FlatState → Type 0} (image : Image) (harts limit log_limit : ℕ) (world : World) (q : Plain)
+pub comes_out : {Kind : Terms → Board FlatState → RecordingEnd FlatState → Type 0} (image : Image) (harts limit log_limit : ℕ) (world : World) (q : Plain)
     (log : Log) (ended : Final) (journal turns : List (ℕ × ℕ))
     → (let start = plain_at_start image harts limit log_limit world in
     AreInLimits (terms_of start) image harts → terms_of q ≡ terms_of start
@@ -98,7 +98,7 @@ right_by start given log journal turns at limits right lean range tells =
     }
 
 -- and what is recorded with nothing left to give is recorded of what was given
-alone : {Kind : Terms → Board FlatState → Recorded FlatState → Type 0} (start : Plain) (after : World) (log : Log) (ended : Final)
+alone : {Kind : Terms → Board FlatState → RecordingEnd FlatState → Type 0} (start : Plain) (after : World) (log : Log) (ended : Final)
     (journal turns : List (ℕ × ℕ)) (is : Records Kind start after log ended journal turns)
     → Kind (terms_of start) (board_before start is.given) (recording log journal turns is.at spent)
 alone {Kind} start after log ended journal turns is =
@@ -144,8 +144,8 @@ rounds_are_one start after then log other ended last journal turns rows others i
     (recording other rows others also.at spent) (alone {Kind = InRounds} start after log ended journal turns is)
     (subst (λ o. IsRecordedInRounds the_machine (terms_of start) (board_before start o) (recording other rows others also.at spent)) (sym same)
     (alone {Kind = InRounds} start then other last rows others also)) in (
-      ap (λ (r : Recorded FlatState). r.log) one,
-      is.ended_is ∙ ap₂ final_of (ap (λ (r : Recorded FlatState). r.ended) one) (ap (λ (r : Recorded FlatState). r.log.cause) one) ∙ sym also.ended_is,
-      ap (λ (r : Recorded FlatState). r.journal) one,
-      ap (λ (r : Recorded FlatState). r.turns) one,
+      ap (λ (r : RecordingEnd FlatState). r.log) one,
+      is.ended_is ∙ ap₂ final_of (ap (λ (r : RecordingEnd FlatState). r.ended) one) (ap (λ (r : RecordingEnd FlatState). r.log.cause) one) ∙ sym also.ended_is,
+      ap (λ (r : RecordingEnd FlatState). r.journal) one,
+      ap (λ (r : RecordingEnd FlatState). r.turns) one,
     )

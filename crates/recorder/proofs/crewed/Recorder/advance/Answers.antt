@@ -2,7 +2,7 @@ use Rattle.std.proofs.Common.{None, slice_index_or, slice_set, subst, sym}
 use Rattle.crew_core.specs.Orders.{told_of}
 use Rattle.recorder.specs.Manned.{Advances, IsManned, row_moves, still}
 use Rattle.recorder.proofs.Manning.{manned_row, may_go, order_there, run_there}
-use Rattle.recorder.proofs.crewed.Recording.advance.Goals as goal
+use Rattle.recorder.proofs.crewed.Recorder.advance.Goals as goal
 
 pub advance-requires : goal.advance-requires
 advance-requires g c =

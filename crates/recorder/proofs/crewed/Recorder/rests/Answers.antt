@@ -1,6 +1,6 @@
 use Rattle.recorder.proofs.Listing.{no_rows, rest_more}
 use Rattle.recorder.proofs.Manning.{given_then}
-use Rattle.recorder.proofs.crewed.Recording.rests.Goals as goal
+use Rattle.recorder.proofs.crewed.Recorder.rests.Goals as goal
 
 pub loop-hart-init : goal.loop-hart-init
 loop-hart-init g c = no_rows c.args.self.now.board c.args.self.now.runs.items c.args.self.now.orders c.requires

@@ -3,7 +3,7 @@ use Rattle.std.proofs.lemmas.List.{take_more}
 use Rattle.recorder.specs.Listed.{TakesRows}
 use Rattle.recorder.proofs.Listing.{no_rows, row_inside, row_more}
 use Rattle.recorder.proofs.Manning.{given_then}
-use Rattle.recorder.proofs.crewed.Recording.rows.Goals as goal
+use Rattle.recorder.proofs.crewed.Recorder.rows.Goals as goal
 
 pub loop-hart-init : goal.loop-hart-init
 loop-hart-init g c = no_rows c.args.self.now.board c.args.self.now.runs.items c.args.self.now.orders c.requires.manned

@@ -3,7 +3,7 @@ use Rattle.crew_parts.specs.Turns.{HasTurn}
 use Rattle.crew_core.specs.Orders.{told}
 use Rattle.recorder.specs.Manned.{HasTurnOf}
 use Rattle.recorder.proofs.Manning.{manned_turn, moved_of, run_there}
-use Rattle.recorder.proofs.crewed.Recording.turn.Goals as goal
+use Rattle.recorder.proofs.crewed.Recorder.turn.Goals as goal
 
 pub take_turn-requires-after_bounds : goal.take_turn-requires-after_bounds
 take_turn-requires-after_bounds g c κs within =

@@ -1,6 +1,6 @@
 use Rattle.crew_parts.specs.Boards.{world}
 use Rattle.recorder.proofs.Manning.{manned_start}
-use Rattle.recorder.proofs.crewed.Recording.start.Goals as goal
+use Rattle.recorder.proofs.crewed.Recorder.start.Goals as goal
 
 pub returns-in-Ok-clause-manned : goal.returns-in-Ok-clause-manned
 returns-in-Ok-clause-manned g c =
