@@ -19,6 +19,7 @@ use Rattle.flat_machine.specs.declared.act.Act.TheVariants as acts
 use Rattle.order_rules.specs.Places.{number_on, is_number, numbered}
 use Rattle.order_rules.specs.Cursor.{Cursor, taken}
 use Rattle.order_rules.specs.Rules.{waits_due, waits_after, yields_after}
+use Rattle.order_rules.proofs.Takings.{numbers_by}
 use Rattle.replay_model.specs.State.{Replay}
 use Rattle.replay_model.specs.Items.{Move, Makes, Verdict, HasEnded, Holds, CanGo, HasDiverged, goes, verdict_on, made, acted, effect, past, holds}
 use Rattle.replay_model.specs.Items.{ends_reservation}
@@ -114,10 +115,6 @@ yields_at_start (suc n) zero = refl
 yields_at_start (suc n) (suc i) = yields_at_start n i
 
 -- the numbers after an entry
-abbrev numbers_by : Option (ℕ × ℕ) → List ℕ → List ℕ
-numbers_by None numbers = numbers
-numbers_by (Some p) numbers = slice_set numbers p.0 (p.1 + 1)
-
 numbers_taken : (c : Cursor) (h : ℕ) (e : Entry) → (taken c h e).numbers ≡ numbers_by (page_number e) c.numbers
 numbers_taken c h (Gain count page seq mode waits) = refl
 numbers_taken c h (Yield count page seq left) = refl

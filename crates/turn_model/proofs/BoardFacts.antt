@@ -224,7 +224,7 @@ store_did d words.Tx v = (refl, refl)
 store_did d words.Stop v = (sym (append-nil d.sent), refl)
 
 -- an access sends what it gives, and leaves the time where its input has none
-word_did : (d e : Devices) (word : DeviceWord) (store : Option ℕ) (input : Input) (w : ℕ) → word_touched d word store input ≡ Some (e, w)
+pub word_did : (d e : Devices) (word : DeviceWord) (store : Option ℕ) (input : Input) (w : ℕ) → word_touched d word store input ≡ Some (e, w)
     → (e.sent ≡ d.sent ++ bytes_given word store) × (time_of_input input ≡ None → e.mtime ≡ d.mtime)
 word_did d e word None input w is = by (load_did d e word input w is) where
   by : Timed d e input → (e.sent ≡ d.sent ++ bytes_given word None) × (time_of_input input ≡ None → e.mtime ≡ d.mtime)
