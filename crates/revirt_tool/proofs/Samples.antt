@@ -1,7 +1,9 @@
 -- The guests of samples are images, and what a sample comes to.
-use Rattle.std.proofs.Common.{◌≡◌, ℕ, true≢false, List, [], ◌∷◌, ◌++◌, length, None, Some, Ok, Err, refl, sym, ap, ap₂, ◌∙◌, subst}
+use Rattle.std.proofs.Common.{◌≡◌, ℕ, ◌-◌, ◌^◌, true, true≢false, List, [], ◌∷◌, ◌++◌, length, None, Some, Ok, Err, refl, sym, ap, ap₂, ◌∙◌, subst}
+use Rattle.std.specs.Prelude.{nat_lt}
+use Rattle.std.proofs.lemmas.Bool.{ltb-true}
 use Rattle.std.proofs.lemmas.Option.{none-some}
-use Rattle.outside.specs.Clocks.{MemClockState, seen_of_clock, ticks}
+use Rattle.outside.specs.Clocks.{MemClockState, seen_of_clock}
 use Rattle.outside.specs.Numbered.{one_more}
 use Rattle.outside.specs.Seen.{Tells}
 use Rattle.elf_image.specs.Image.{Image}
@@ -93,14 +95,21 @@ module _ (image : Image) (ended : Final) (bytes : List ℕ) (of : IsSpelled imag
     pub same_report : (text : List ℕ) (end : Final) → EndsAt read image end → text ≡ report end → text ≡ report ended
     same_report text end ends told = told ∙ ap report (same_end end ends)
 
--- the clock's answers
-pub by_hundreds : (old new : MemClockState) (given time : ℕ) → old.first ≡ 0 → old.step ≡ 100 → given ≡ old.given
-    → new ≡ record old { given = one_more old.given } → Tells time (seen_of_clock old) (seen_of_clock new)
-    → Tells time (seen_by_hundreds given) (seen_by_hundreds new.given)
-by_hundreds old new given time first step is more answered told =
-    sym (ap₂ (λ a b. ticks a b new.given) (ap (λ (c : MemClockState). c.first) more ∙ first) (ap (λ (c : MemClockState). c.step) more ∙ step))
-    ∙ answered told
-    ∙ ap (λ l. l ++ time ∷ []) (ap₂ (λ a b. ticks a b old.given) first step ∙ ap (ticks 0 100) (sym is))
+-- that clock, which was asked so often
+abbrev pub hundreds : ℕ → MemClockState
+hundreds asked = record { first = 0; step = 100; given = asked }
+
+-- its next answer
+pub asked_once_more : (old new : MemClockState) (asked more : ℕ) → old ≡ hundreds asked → new ≡ record old { given = one_more old.given }
+    → more ≡ one_more asked → new ≡ hundreds more
+asked_once_more old new asked more is after counted =
+    after ∙ ap (λ (o : MemClockState). record o { given = one_more o.given }) is ∙ ap hundreds (sym counted)
+
+pub by_hundreds : (old new : MemClockState) (asked more time : ℕ) → old ≡ hundreds asked → new ≡ hundreds more
+    → Tells time (seen_of_clock old) (seen_of_clock new) → Tells time (seen_by_hundreds asked) (seen_by_hundreds more)
+by_hundreds old new asked more time is after told =
+    subst (λ o. Tells time (seen_of_clock o) (seen_by_hundreds more)) is
+    (subst (λ n. Tells time (seen_of_clock old) (seen_of_clock n)) after told)
 
 -- the image isn't refused
 pub not_refused : (number rule : ℕ) (file : List ℕ) → file ≡ guest number 4 → broken_rule 8 file ≡ Some rule → ⊥
@@ -108,10 +117,13 @@ not_refused number rule file is breaks = none-some rule (sym (ap (broken_rule 8)
 
 -- what was recorded over that console and that clock
 pub sampled_so : (image : Image) (no_poll no_time polls times : ℕ) (log : Log) (ended : Final) (journal turns : List (ℕ × ℕ)) → no_poll ≡ 0 → no_time ≡ 0
+    → nat_lt polls (2 ^ 64 - 1) ≡ true → nat_lt times (2 ^ 64 - 1) ≡ true
     → RecordsInRounds (begun sample_board image (quiet no_poll no_time)) (quiet polls times) log ended journal turns → IsSampled image log ended
-sampled_so image no_poll no_time polls times log ended journal turns none never is = record {
+sampled_so image no_poll no_time polls times log ended journal turns none never few seldom is = record {
   polls = polls;
   times = times;
+  polls_told = ltb-true polls _ few;
+  times_told = ltb-true times _ seldom;
   journal = journal;
   turns = turns;
   comes = comes sample_board image (quiet 0 0) (quiet polls times) log ended journal turns

@@ -1,5 +1,5 @@
 -- What `sample` records and prints (docs/command-line.md, docs/guests.md).
-use Rattle.std.specs.Prelude.{ℕ, ◌≡◌, ◌-◌, ◌^◌, false, List, [], length, nat_lt, None, Ok}
+use Rattle.std.specs.Prelude.{ℕ, ◌≡◌, ◌<◌, ◌-◌, ◌^◌, false, List, [], length, nat_lt, None, Ok}
 use Rattle.outside.specs.Clocks.{ticks}
 use Rattle.outside.specs.Consoles.{seen_of_sure}
 use Rattle.outside.specs.Seen.{SeenClock}
@@ -35,10 +35,12 @@ seen_by_hundreds asked = record { tells = nat_lt asked (2 ^ 64 - 1); answers = t
 abbrev pub quiet : ℕ → ℕ → World
 quiet polls times = world (seen_of_sure polls) (seen_by_hundreds times)
 
--- the image was recorded in rounds over that console and that clock, with this log and this end
+-- the image was recorded in rounds over that console and that clock, which tell all their answers, with this log and this end
 pub record IsSampled (image : Image) (log : Log) (ended : Final) : Type 0 where
   pub polls : ℕ
   pub times : ℕ
+  pub polls_told : polls < 2 ^ 64 - 1
+  pub times_told : times < 2 ^ 64 - 1
   pub journal : List (ℕ × ℕ)
   pub turns : List (ℕ × ℕ)
   pub comes : Comes sample_board image (quiet 0 0) (quiet polls times) log ended journal turns

@@ -1,9 +1,11 @@
 //! The command that records a sample guest and replays it in both ways.
 
-ghost use Rattle.std.specs.Prelude.{◌≡◌, ◌++◌, ℕ, false, IfOk, length};
+ghost use Rattle.std.specs.Prelude.{◌≡◌, ◌-◌, ◌^◌, ℕ, true, IfOk, Ok, is_ok, nat_lt};
 ghost use Rattle.flat_machine.specs.declared.results.Final.{Final};
 ghost use Rattle.report_view.specs.Report.{report};
-ghost use Rattle.outside.specs.Seen.{ToldBefore, Tells};
+ghost use Rattle.outside.specs.Consoles.{seen_of_sure};
+ghost use Rattle.outside.specs.Seen.{Answers, Tells};
+ghost use Rattle.outside.specs.declared.console.Asked.TheVariants.{Nothing};
 ghost use Rattle.outside.specs.Clocks.{tick_at};
 ghost use Rattle.outside.specs.Numbered.{one_more};
 ghost use Rattle.revirt_tool.specs.Replays.{IsReportable};
@@ -18,7 +20,7 @@ use flat_machine::Final;
 use guest_maker::make_guest;
 use log_entry::Log;
 use log_format::{ReadError, read_log, write_log};
-use outside::{Clock, Console, Gate, MemClock, NoMemory, SureConsole};
+use outside::{Asked, Clock, Console, Failed, Gate, MemClock, NoMemory, SureConsole};
 use report_view::{Summary, report_text, summary_text};
 use round_run::record_rounds;
 use std::alloc::Global;
@@ -34,10 +36,11 @@ const LIMIT: u64 = 1_000_000;
 
 const LOG_LIMIT: u64 = 67_108_864;
 
-/// A clock that answers 0, 100, 200 and so on.
+/// A clock that answers 0, 100, 200 and so on, and counts its answers.
 #[derive(Drop)]
 struct ByHundreds {
     clock: MemClock,
+    asked: u64,
 }
 
 impl Model for ByHundreds {
@@ -45,9 +48,9 @@ impl Model for ByHundreds {
 
     ghost Value = { ℕ };
 
-    ghost view = { λ c. c.clock.given };
+    ghost view = { λ c. c.asked };
 
-    ghost invariant = { λ c. (c.clock.first ≡ 0) × (c.clock.step ≡ 100) };
+    ghost invariant = { λ c. c.clock ≡ record { first = 0; step = 100; given = c.asked } };
 }
 
 impl ByHundreds {
@@ -57,7 +60,15 @@ impl ByHundreds {
     {
         ByHundreds {
             clock: MemClock::start(0, 100),
+            asked: 0,
         }
+    }
+
+    /// Whether that number can be told.
+    fn can_tell(&self) -> bool
+        ensures { result ≡ nat_lt self.now (2 ^ 64 - 1) }
+    {
+        self.asked < u64::MAX
     }
 }
 
@@ -69,7 +80,64 @@ impl Clock for ByHundreds {
         ensures answer { result ≡ tick_at 0 100 self.old }
         ensures counted { self.new ≡ one_more self.old }
     {
+        self.asked = self.asked.saturating_add(1);
         self.clock.now()
+    }
+}
+
+/// A console that always answers that there is nothing, and counts its answers.
+#[derive(Drop)]
+struct Quiet {
+    console: SureConsole,
+    asked: u64,
+}
+
+impl Model for Quiet {
+    ghost use Rattle.std.specs.Prelude.{ℕ, ◌≡◌};
+
+    ghost Value = { ℕ };
+
+    ghost view = { λ c. c.asked };
+
+    ghost invariant = { λ c. c.console ≡ c.asked };
+}
+
+impl Quiet {
+    /// Contracts see it as the number of answers that it gave.
+    fn start() -> Quiet
+        ensures { result ≡ 0 }
+    {
+        Quiet {
+            console: SureConsole::start(),
+            asked: 0,
+        }
+    }
+
+    /// Whether that number can be told.
+    fn can_tell(&self) -> bool
+        ensures { result ≡ nat_lt self.now (2 ^ 64 - 1) }
+    {
+        self.asked < u64::MAX
+    }
+}
+
+impl Console for Quiet {
+    ghost seen = { seen_of_sure };
+
+    fn poll(&mut self) -> Result<Asked, Failed>
+        ensures answered { IfOk result (λ a. Answers a (seen_of_sure self.old) (seen_of_sure self.new)) }
+        ensures answer { result ≡ Ok Nothing }
+        ensures asked { self.new ≡ one_more self.old }
+    {
+        self.asked = self.asked.saturating_add(1);
+        self.console.poll()
+    }
+
+    fn put(&mut self, byte: u8) -> Result<(), Failed>
+        ensures answer { is_ok result ≡ true }
+        ensures as_before { self.new ≡ self.old }
+    {
+        self.console.put(byte)
     }
 }
 
@@ -85,7 +153,8 @@ fn guest_of(alloc: Global, number: u32) -> Result<Image, NoMemory>
     }
 }
 
-/// The log of a recording in rounds, and what it ended with.
+/// The log of a recording in rounds, and what it ended with. None of it where so many answers were given that their
+/// number can't be told, which no run of this board comes to.
 fn recorded<T: Threads + Sync, G: Gate>(
     rt: &T,
     alloc: Global,
@@ -101,11 +170,25 @@ fn recorded<T: Threads + Sync, G: Gate>(
         HARTS,
         LIMIT,
         LOG_LIMIT,
-        SureConsole::start(),
+        Quiet::start(),
         ByHundreds::start(),
         gate,
     ) {
-        Ok(Recorded { log, ended, .. }) => Ok((log, ended)),
+        Ok(
+            Recorded {
+                log,
+                ended,
+                console,
+                clock,
+                ..
+            },
+        ) => {
+            if console.can_tell() && clock.can_tell() {
+                Ok((log, ended))
+            } else {
+                Err(NoMemory)
+            }
+        }
         Err(_) => Err(NoMemory),
     }
 }

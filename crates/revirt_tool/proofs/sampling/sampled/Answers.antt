@@ -34,7 +34,8 @@ returns g c =
     c.as_slice-2.ensures.value in
     IfOk-weaker c.summary_text.result _ _ (λ text told. sample_so c.args.number c.len.result image log ended bytes
     c.as_slice-3.result.now c.as_slice-4.result.now c.as_slice-5.result.now text.items c.in_ok-image.ensures c.in_ok-log.ensures
-    c.in_ok-bytes.ensures.bytes (c.len.ensures ∙ sym c.as_slice.ensures.len ∙ ap length c.as_slice.ensures.value) (c.as_slice-3.ensures.value ∙ c.in_ok-report.ensures)
+    c.in_ok-bytes.ensures.bytes (c.len.ensures ∙ sym c.as_slice.ensures.len ∙ ap length c.as_slice.ensures.value)
+    (c.as_slice-3.ensures.value ∙ c.in_ok-report.ensures)
     (c.as_slice-4.ensures.value ∙ c.in_ok-one.ensures ended one)
     (c.as_slice-5.ensures.value ∙ c.in_ok-rounds.ensures ended rounds) told)
     c.summary_text.ensures
