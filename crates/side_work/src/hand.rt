@@ -97,6 +97,7 @@ pub fn fetch<X, W: MadeBy<X>>(lent: Lent<W>, tool: &X) -> Option<(Hand<W>, W)>
     let mut times = 0;
     for _ in 0..u64::MAX {
         if let Some(desk) = place.table.try_take(&mut pass) {
+            place.call.store(REST, Ordering::SeqCst);
             return Some((Hand { place, pass }, taken(desk, asked, tool)));
         }
         times = wait(times);
