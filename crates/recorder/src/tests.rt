@@ -101,6 +101,24 @@ fn full_log(alloc: Global, rt: &impl Abort) -> bool {
     holds(rt, alloc, &wanted) && r.ended.counts.items() == [172_032].as_slice()
 }
 
+// No words: the first move traps, and with mtvec 0 the second one at its fetch.
+fn traps(alloc: Global, rt: &impl Abort) -> bool {
+    let streams = [POLL, GAIN, end(2)];
+    let wanted = Row {
+        size: Some(101),
+        streams: &[&streams],
+        places: &[(0, 0)],
+        csrs: &[
+            (0, 0x300, 0x1800),
+            (0, 0x342, 1),
+            (0, 0xb00, 2),
+            (0, 0xb02, 0),
+        ],
+        ..plain_row(&[], 1, 2, &[(0, 100), (0, 100)])
+    };
+    holds(rt, alloc, &wanted)
+}
+
 #[test]
 fn one_hart(rt: HostRuntime) {
     assert!(rt; smallest(rt.alloc(), &rt));
@@ -109,6 +127,7 @@ fn one_hart(rt: HostRuntime) {
     assert!(rt; to_the_first_poll(rt.alloc(), &rt));
     assert!(rt; past_the_first_poll(rt.alloc(), &rt));
     assert!(rt; full_log(rt.alloc(), &rt));
+    assert!(rt; traps(rt.alloc(), &rt));
 }
 
 // lui x1, 0x80001; lw x2, 0(x1); addi x2, x2, 1; sw x2, 0(x1); jal x0, 0

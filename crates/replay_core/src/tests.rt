@@ -470,20 +470,31 @@ fn orders() -> &'static [[u8; 26]] {
     &ORDERS
 }
 
-/// Each item of the order is made, and the race then ends with the lost addition.
-fn is_full(alloc: Global, order: &[u8]) -> Result<bool, Fail> {
-    let (answers, outcome) = listed(alloc, staged(alloc, lost_addition())?, order)?;
+/// Hart 0 to its end, and then hart 1.
+static ONE_BY_ONE: [u8; 25] = [
+    0, 0, 0, 0, 0, 0, 0, 0, 0, 0, 0, 0, 0, 1, 1, 1, 1, 1, 1, 1, 1, 1, 1, 1, 1,
+];
+
+fn one_by_one() -> &'static [u8] {
+    &ONE_BY_ONE
+}
+
+/// Each item of the order is made, and the race then ends with this word.
+fn is_full(alloc: Global, case: Case, order: &[u8], word: &'static [u8]) -> Result<bool, Fail> {
+    let (answers, outcome) = listed(alloc, staged(alloc, case)?, order)?;
     let made = answers
         .iter()
         .all(|went| matches!(went, Went::Moved | Went::Entry));
-    Ok(made && is_done(&outcome, &raced(&[1, 0, 0, 0])))
+    Ok(made && is_done(&outcome, &raced(word)))
 }
 
 #[test]
 fn full_orders_end_in_one_state(rt: HostRuntime) -> Result<(), Fail> {
+    let alloc = rt.alloc();
     for order in orders() {
-        assert!(rt; is_full(rt.alloc(), order)?);
+        assert!(rt; is_full(alloc, lost_addition(), order, &[1, 0, 0, 0])?);
     }
+    assert!(rt; is_full(alloc, both_additions(), one_by_one(), &[2, 0, 0, 0])?);
     Ok(())
 }
 
