@@ -4,8 +4,8 @@ ghost use Rattle.std.specs.Prelude.{◌≡◌, ◌∷◌, [], IfOk, codes};
 ghost use Rattle.command_words.specs.Texts.{texts};
 
 use crate::tests::{
-    Told, bytes_of, devices_with, first_of, plain_row as recording, serve, smallest, smallest_log,
-    tell,
+    Told, bytes_of, first_of, plain_row as recording, serve, smallest, smallest_log,
+    surroundings_with, tell,
 };
 use crate::{Finish, revirt};
 use outside::{MemClock, OpenGate, SureConsole, SureShelf, SureSink};
@@ -42,7 +42,7 @@ fn list<T: Threads + Wait + Sync>(
     shelf_fails: &[u64],
     sink_fails: &[u64],
 ) -> Result<Told, Fail> {
-    let devices = devices_with(alloc, &[], log, shelf_fails, sink_fails)?;
+    let devices = surroundings_with(alloc, &[], log, shelf_fails, sink_fails)?;
     tell(rt, alloc, "inspect l", devices, &OpenGate)
 }
 

@@ -2,8 +2,8 @@
 
 use crate::listing_tests::{race_log, twice_numbered_log};
 use crate::tests::{
-    Row, Told, bytes_of, devices, devices_with, failing_ends, first_of, full_row, has_lines,
-    has_word, input_row, limits, race_guest, round, serve, smallest, smallest_log, smallest_report,
+    Row, Told, bytes_of, devices, failing_ends, first_of, full_row, has_lines, has_word, input_row,
+    limits, race_guest, round, serve, smallest, smallest_log, smallest_report, surroundings_with,
     tell,
 };
 use outside::OpenGate;
@@ -36,7 +36,7 @@ fn replay<T: Threads + Wait + Sync>(
     sink_fails: &[u64],
 ) -> Result<Told, Fail> {
     let file = bytes_of(alloc, guest)?;
-    let devices = devices_with(alloc, file.as_slice(), Some(log), shelf_fails, sink_fails)?;
+    let devices = surroundings_with(alloc, file.as_slice(), Some(log), shelf_fails, sink_fails)?;
     tell(rt, alloc, line, devices, &OpenGate)
 }
 

@@ -1,6 +1,6 @@
 //! Samples by the top call.
 
-use crate::tests::{Told, devices_with, tell};
+use crate::tests::{Told, surroundings_with, tell};
 use crate::way_tests::CountGate;
 use outside::{Asked, Gate, MemConsole, OpenGate};
 use std::alloc::Global;
@@ -15,7 +15,7 @@ fn sample<T: Threads + Wait + Sync, G: Gate>(
     sink_fails: &[u64],
     gate: &G,
 ) -> Result<Told, Fail> {
-    let mut devices = devices_with(alloc, &[], None, &[0, 1, 2, 3], sink_fails)?;
+    let mut devices = surroundings_with(alloc, &[], None, &[0, 1, 2, 3], sink_fails)?;
     devices.console = MemConsole::start(alloc, &[], Asked::End, 100, &[0, 1, 2, 3])?;
     tell(rt, alloc, "sample 7", devices, gate)
 }
@@ -52,7 +52,7 @@ fn a_sample_is_recorded_and_replayed_alike(rt: HostRuntime) -> Result<(), Fail> 
     let told = sample(&rt, rt.alloc(), &[], &gate)?;
     assert_eq!(rt; told.status, 0);
     // The recording, and one of the replays.
-    assert_eq!(rt; gate.begun(), 2);
+    assert_eq!(rt; gate.passes(), 22);
     let Ok(text) = std::str::from_utf8(told.report.written()) else {
         panic!(rt; "a text");
     };

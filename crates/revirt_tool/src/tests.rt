@@ -1,4 +1,4 @@
-ghost use Rattle.std.specs.Prelude.{◌≡◌, ◌∷◌, [], IfOk, codes};
+ghost use Rattle.std.specs.Prelude.{◌≡◌, ◌∷◌, [], None, IfOk, codes};
 ghost use Rattle.command_words.specs.Texts.{texts};
 
 use crate::{Finish, revirt};
@@ -269,27 +269,29 @@ pub(crate) fn words_of(alloc: Global, line: &str) -> Result<Vec<String>, Fail> {
 
 /// What a command runs over.
 #[derive(Drop)]
-pub(crate) struct Devices {
+pub(crate) struct Surroundings {
     pub shelf: MemShelf,
     pub console: MemConsole,
     clock: MemClock,
     report: MemSink,
 }
 
-/// Devices that know of nothing but these files, with the numbers of the calls of shelf and sink that fail.
-pub(crate) fn devices_with(
+/// Surroundings that know of nothing but these files, with the numbers of the calls of shelf and sink that fail.
+pub(crate) fn surroundings_with(
     alloc: Global,
     guest: &[u8],
     log: Option<&[u8]>,
     shelf_fails: &[u64],
     sink_fails: &[u64],
-) -> Result<Devices, Fail> {
+) -> Result<Surroundings, Fail>
+    ensures { IfOk result (λ s. s.shelf.draft ≡ None) }
+{
     let mut shelf = MemShelf::start(alloc, 100_000, shelf_fails)?;
     shelf.hold("g", guest);
     if let Some(log) = log {
         shelf.hold("l", log);
     }
-    Ok(Devices {
+    Ok(Surroundings {
         shelf,
         console: MemConsole::start(alloc, &[], Asked::End, 100, &[])?,
         clock: MemClock::start(5, 0),
@@ -311,11 +313,13 @@ pub(crate) fn tell<T: Threads + Wait + Sync, G: Gate>(
     rt: &T,
     alloc: Global,
     line: &str,
-    devices: Devices,
+    devices: Surroundings,
     gate: &G,
-) -> Result<Told, Fail> {
+) -> Result<Told, Fail>
+    requires { devices.shelf.draft ≡ None }
+{
     let words = words_of(alloc, line)?;
-    let Devices {
+    let Surroundings {
         mut shelf,
         console,
         clock,
@@ -349,7 +353,7 @@ pub(crate) fn serve<T: Threads + Wait + Sync>(
     row: &Row,
     file: &[u8],
 ) -> Result<Told, Fail> {
-    let mut devices = devices_with(alloc, file, None, row.shelf_fails, row.sink_fails)?;
+    let mut devices = surroundings_with(alloc, file, None, row.shelf_fails, row.sink_fails)?;
     devices.console = MemConsole::start(alloc, row.answers, Asked::End, 100, row.console_fails)?;
     devices.clock = MemClock::start(row.time, 0);
     tell(rt, alloc, row.line, devices, &OpenGate)
@@ -719,7 +723,7 @@ fn a_full_log_ends_the_run(rt: HostRuntime) -> Result<(), Fail> {
 fn an_image_that_is_too_long_is_refused(rt: HostRuntime) -> Result<(), Fail> {
     let alloc = rt.alloc();
     let file = vec![in alloc; 0u8; 67_108_865]?;
-    let mut devices = devices_with(alloc, &[], None, &[], &[])?;
+    let mut devices = surroundings_with(alloc, &[], None, &[], &[])?;
     devices.shelf = MemShelf::start(alloc, 67_108_866, &[])?;
     assert!(rt; devices.shelf.hold("g", file.as_slice()));
     let told = tell(&rt, alloc, "record g l", devices, &OpenGate)?;

@@ -2,7 +2,8 @@
 
 use crate::replay_tests::changed_poll;
 use crate::tests::{
-    Row, bytes_of, devices, devices_with, input_row, limits, serve, smallest, smallest_log, tell,
+    Row, bytes_of, devices, input_row, limits, serve, smallest, smallest_log, surroundings_with,
+    tell,
 };
 use outside::OpenGate;
 use std::alloc::Global;
@@ -22,7 +23,7 @@ fn comes_to<T: Threads + Wait + Sync>(
     text: &str,
 ) -> Result<bool, Fail> {
     let file = bytes_of(alloc, guest)?;
-    let devices = devices_with(alloc, file.as_slice(), Some(log), &[], sink_fails)?;
+    let devices = surroundings_with(alloc, file.as_slice(), Some(log), &[], sink_fails)?;
     let told = tell(rt, alloc, line, devices, &OpenGate)?;
     Ok(told.status == status && told.report.written() == text.as_bytes())
 }

@@ -1,7 +1,7 @@
 //! Replays by the top call, in each way.
 
 use crate::listing_tests::race_log;
-use crate::tests::{Told, bytes_of, devices_with, race_guest, tell};
+use crate::tests::{Told, bytes_of, race_guest, surroundings_with, tell};
 use outside::{Gate, HoldGate};
 use std::alloc::Global;
 use std::sync::Wait;
@@ -19,7 +19,7 @@ fn tell_with<T: Threads + Wait + Sync, G: Gate>(
     gate: &G,
 ) -> Result<Told, Fail> {
     let file = bytes_of(alloc, guest)?;
-    let devices = devices_with(alloc, file.as_slice(), log, &[], &[])?;
+    let devices = surroundings_with(alloc, file.as_slice(), log, &[], &[])?;
     tell(rt, alloc, line, devices, gate)
 }
 
@@ -52,37 +52,38 @@ fn harts_move_beside_each_other(rt: HostRuntime) -> Result<(), Fail> {
     Ok(())
 }
 
-/// A gate that counts how often hart 0 begins its first leg.
+/// A gate that counts how often hart 0 passes it before its first leg, and ten for each time behind it.
 #[derive(Drop)]
 pub(crate) struct CountGate {
-    begun: AtomicU64,
+    passes: AtomicU64,
 }
 
 impl CountGate {
     pub(crate) fn start() -> CountGate {
         CountGate {
-            begun: AtomicU64::new(0),
+            passes: AtomicU64::new(0),
         }
     }
 
-    pub(crate) fn begun(&self) -> u64 {
-        self.begun.load(Ordering::SeqCst)
+    pub(crate) fn passes(&self) -> u64 {
+        self.passes.load(Ordering::SeqCst)
     }
 }
 
 impl Gate for CountGate {
     fn pass(&self, hart: u8, leg: u64, after: bool) {
-        if hart == 0 && leg == 0 && !after {
-            let _ = self.begun.fetch_add(1, Ordering::SeqCst);
+        if hart == 0 && leg == 0 {
+            let worth = if after { 10 } else { 1 };
+            let _ = self.passes.fetch_add(worth, Ordering::SeqCst);
         }
     }
 }
 
-/// A replay in each way, and how often its harts begin a first leg on threads.
+/// A replay in each way, and what its gate counts.
 fn legs_of_ways() -> [(&'static str, u64); 3] {
     [
-        ("replay g l", 1),
-        ("replay g l --rounds", 1),
+        ("replay g l", 11),
+        ("replay g l --rounds", 11),
         ("replay g l --one", 0),
     ]
 }
@@ -90,11 +91,11 @@ fn legs_of_ways() -> [(&'static str, u64); 3] {
 #[test]
 fn only_replays_in_rounds_pass_the_gate(rt: HostRuntime) -> Result<(), Fail> {
     let alloc = rt.alloc();
-    for (line, begun) in legs_of_ways() {
+    for (line, passes) in legs_of_ways() {
         let gate = CountGate::start();
         let told = tell_with(&rt, alloc, line, race_guest(), Some(race_log()), &gate)?;
         assert_eq!(rt; told.status, 0);
-        assert_eq!(rt; gate.begun(), begun);
+        assert_eq!(rt; gate.passes(), passes);
     }
     Ok(())
 }
