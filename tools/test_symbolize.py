@@ -48,11 +48,11 @@ class Symbolize(unittest.TestCase):
             with open(elf, "wb") as file:
                 file.write(elf_file())
             with open(trace, "w", encoding="ascii") as file:
-                file.write("0 80000000 800010b7 lui x1, 0x80001 x1=80001000\n4 80000014 -------- trap 1\n")
+                file.write("0 80000000 800010b7 lui x1, 0x80001 x1=80001000\n4 80000014 -------- trap 1\nother image: 00 11\nshelf fault\n")
             out = io.StringIO()
             with contextlib.redirect_stdout(out):
                 symbolize.main([trace, elf])
-        self.assertEqual(out.getvalue(), "0 80000000 800010b7 lui x1, 0x80001 x1=80001000    start\n4 80000014 -------- trap 1    main+4\n")
+        self.assertEqual(out.getvalue(), "0 80000000 800010b7 lui x1, 0x80001 x1=80001000    start\n4 80000014 -------- trap 1    main+4\nother image: 00 11\nshelf fault\n")
 
     def test_another_file_is_refused(self):
         with self.assertRaises(SystemExit):
