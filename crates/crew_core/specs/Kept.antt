@@ -1,5 +1,6 @@
 -- What the recorder's board keeps of its plain data.
 use Rattle.std.specs.Prelude.{ℕ, ◌≡◌, ◌<◌, ◌≤◌, length, map, All, Bool, List, [], IsTrue}
+use Rattle.rv_words.specs.Limits.{most_moves}
 use Rattle.elf_image.specs.Image.{Image}
 use Rattle.log_entry.specs.Waits.{WaitList}
 use Rattle.crew_parts.specs.Boards.{Plain, World, IsBoardOf, board_of, spent}
@@ -57,7 +58,7 @@ pub record IsReady (c : Crew) (spare : List WaitList) (journal turns : Rows ℕ)
 -- the crew stands for the board of this plain data, to which turns led
 pub record IsSeenAs (c : Crew) (spare : List WaitList) (journal turns : Rows ℕ) (p : Plain) : Type 0 where
   pub terms : terms_of c ≡ boards.terms_of p
-  pub most : p.limit ≤ 1000000000000
+  pub most : p.limit ≤ most_moves
   pub stands : Stands c (board_of p spent)
   pub board : IsBoardOf p
   pub empty : All IsSpare spare

@@ -1,7 +1,7 @@
 -- The board of turns that the recorder's board stands for.
 use Rattle.std.specs.Prelude.{vec_capacity, ℕ, ◌≡◌, ◌+◌, ◌*◌, ◌<◌, ◌≤◌, false, true, List, map, length, slice_get, slice_index, Option, Some, None}
 use Rattle.std.specs.Prelude.{unwrap_or, []}
-use Rattle.rv_words.specs.Limits.{page_bytes, poll_distance}
+use Rattle.rv_words.specs.Limits.{page_bytes, poll_distance, longest_log}
 use Rattle.rv_words.specs.declared.shared.Mode.{Mode}
 use Rattle.log_entry.specs.declared.log.Entry.{Entry}
 use Rattle.log_entry.specs.declared.waits.WaitFor.{WaitFor}
@@ -90,8 +90,8 @@ pub record Stands (c : Crew) (b : Board FlatState) : Type 0 where
   pub device_harts : c.backing.devices.devices.harts ≡ c.harts
   pub few : c.harts ≤ 8
   pub favours : c.favoured < c.harts
-  pub limit : c.log_limit ≤ 536870912
-  pub most_bytes : c.size ≤ 536870912
+  pub limit : c.log_limit ≤ longest_log
+  pub most_bytes : c.size ≤ longest_log
   pub numbers_fit : (page : ℕ) → 16 * slice_index b.at.cursor.numbers page ≤ c.size
   pub ordinal_fits : 16 * b.at.cursor.ordinal ≤ c.size
 

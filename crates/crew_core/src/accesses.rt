@@ -2,6 +2,7 @@
 
 ghost use Rattle.std.specs.Prelude.{◌≡◌, ◌<◌, ◌≤◌, ◌+◌, ◌^◌, ◌-◌, ◌%◌, ◌==◌};
 ghost use Rattle.std.specs.Prelude.{is_some, IsSome, OnOk, OnErr, IfSome, Some, None};
+ghost use Rattle.rv_words.specs.Limits.{longest_log};
 ghost use Rattle.rv_words.specs.Addresses.{device_word};
 ghost use Rattle.outside.specs.Causes.{HasCause};
 ghost use Rattle.outside.specs.Seen.{ToldBefore, AnswersNothing, TakesNothing};
@@ -44,7 +45,7 @@ impl Crew {
         requires tied { IsTied self.old run.old hart }
         requires hart { hart < self.old.harts }
         requires running { self.old.backing.devices.devices.stop ≡ None }
-        requires bytes { self.old.size + DEVICE_BYTES ≤ 536870912 }
+        requires bytes { self.old.size + DEVICE_BYTES ≤ longest_log }
         requires room { HasRoomFor 1 self.old.seats hart }
         ensures frame { MakesOrdinalEntry self.old self.new }
         ensures stop { self.new.backing.devices.devices.stop ≡ self.old.backing.devices.devices.stop }
@@ -122,7 +123,7 @@ impl Crew {
         requires below { run.old.count < self.old.limit }
         requires word { IsSome (device_word self.old.backing.devices.devices.harts access.at) }
         requires spare { 0 < self.old.backing.devices.spare }
-        requires bytes { self.old.size + DEVICE_BYTES ≤ 536870912 }
+        requires bytes { self.old.size + DEVICE_BYTES ≤ longest_log }
         requires room { HasRoomFor 1 self.old.seats hart }
         ensures frame { OnOk result (MakesOrdinalEntry self.old self.new) }
         ensures sent { OnOk result (IfSome (device_word self.old.backing.devices.devices.harts access.at)
@@ -233,7 +234,7 @@ impl Crew {
         requires below { run.old.count < self.old.limit }
         requires word { device_word self.old.backing.devices.devices.harts access.at ≡ Some word }
         requires spare { 0 < self.old.backing.devices.spare }
-        requires bytes { self.old.size + DEVICE_BYTES ≤ 536870912 }
+        requires bytes { self.old.size + DEVICE_BYTES ≤ longest_log }
         requires room { HasRoomFor 1 self.old.seats hart }
         ensures harts { self.new.harts ≡ self.old.harts }
         ensures tells_answers { ToldBefore (C.seen console.old).tells_answers (C.seen console.new).tells_answers }

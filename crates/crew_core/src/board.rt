@@ -1,6 +1,7 @@
 //! The recorder's board: the crew with console, clock and the rows of its turns.
 
 ghost use Rattle.std.specs.Prelude.{ℕ, ◌≡◌, ◌↔◌, IsErr, ◌<◌, ◌≤◌, length, map, true, false, IsTrue, IfOk, IfErr, OnOk, OnErr, Some, unwrap_or};
+ghost use Rattle.rv_words.specs.Limits.{most_moves, longest_log};
 ghost use Rattle.orders_law.specs.Orders.{below};
 ghost use Rattle.rv_words.specs.declared.shared.Cause.TheVariants.{Cut};
 ghost use Rattle.run_model.specs.Run.{run_at_start};
@@ -94,7 +95,7 @@ fn first_crew(
 ) -> Result<(Crew, Vec<HartRun>), NoMemory>
     requires least { 1 ≤ harts }
     requires most { harts ≤ MAX_HARTS }
-    requires log { log_limit ≤ 536870912 }
+    requires log { log_limit ≤ longest_log }
     ensures terms { IfOk result (λ r. terms_of r.0 ≡ terms_at image.now limit log_limit) }
     ensures stands { IfOk result (λ r. StandsAtStart image.now harts r.0) }
     ensures runs { IfOk result (λ r. r.1.items ≡ map (λ h. run_at_start h harts image.now) (below harts)) }
@@ -118,9 +119,9 @@ impl<C: Console, K: Clock> Board<C, K> {
     ) -> Result<(Board<C, K>, Vec<HartRun>), OutOfMemory<C, K>>
         requires least { 1 ≤ harts }
         requires most { harts ≤ MAX_HARTS }
-        requires limit { limit ≤ 1000000000000 }
+        requires limit { limit ≤ most_moves }
         requires log_least { 1024 ≤ log_limit }
-        requires log_most { log_limit ≤ 536870912 }
+        requires log_most { log_limit ≤ longest_log }
         ensures board { IfOk result
             (λ r. r.0 ≡ plain_at_start image.now harts limit log_limit (world (C.seen console) (K.seen clock))) }
         ensures runs { IfOk result (λ r. r.1.items ≡ map (λ h. run_at_start h harts image.now) (below harts)) }

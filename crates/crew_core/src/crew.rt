@@ -3,6 +3,7 @@
 ghost use Rattle.std.specs.Prelude.{ℕ, ◌≡◌, ◌≢◌, ◌<◌, ◌≤◌, ◌+◌, ◌^◌, ◌-◌, ◌%◌, ◌&&◌, ◌||◌, ◌==◌, nat_le};
 ghost use Rattle.std.specs.Prelude.{length};
 ghost use Rattle.std.specs.Prelude.{unwrap_or, is_some, IfOk, Some, None};
+ghost use Rattle.rv_words.specs.Limits.{longest_log};
 ghost use Rattle.outside.specs.Seen.{ToldBefore};
 ghost use Rattle.log_entry.specs.Room.{entry_without_room};
 ghost use Rattle.order_rules.specs.Holders.{held};
@@ -65,7 +66,7 @@ impl Crew {
     ) -> Result<Crew, NoMemory>
         requires least { 1 ≤ harts }
         requires most { harts ≤ MAX_HARTS }
-        requires log { log_limit ≤ 536870912 }
+        requires log { log_limit ≤ longest_log }
         ensures terms { IfOk result (λ c. terms_of c ≡ terms_at image.now limit log_limit) }
         ensures stands { IfOk result (StandsAtStart image.now harts) }
     {

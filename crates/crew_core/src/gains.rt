@@ -3,6 +3,7 @@
 ghost use Rattle.std.specs.Prelude.{◌≡◌, ◌<◌, ◌≤◌, ◌+◌, ◌*◌, ◌-◌, ◌&&◌, find, length};
 ghost use Rattle.std.specs.Prelude.{is_some, IsTrue, Some, None};
 ghost use Rattle.std.specs.List.{range_with_len};
+ghost use Rattle.rv_words.specs.Limits.{longest_log};
 ghost use Rattle.log_entry.specs.Parts.{strength, conflict};
 ghost use Rattle.order_rules.specs.Holders.{held};
 ghost use Rattle.privilege_directory.specs.Directory.{may_gain, by_others, yields_of};
@@ -168,7 +169,7 @@ impl Crew {
         requires page { page < self.old.pages }
         requires allowed { IsTrue (may_gain self.old.directory hart page mode) }
         requires bytes { self.old.size
-            + (GAIN_BYTES + WAIT_BYTES * length (by_others hart (yields_of self.old.directory page))) ≤ 536870912 }
+            + (GAIN_BYTES + WAIT_BYTES * length (by_others hart (yields_of self.old.directory page))) ≤ longest_log }
         requires room { HasRoomFor 1 self.old.seats hart }
         requires waits { IsRoomy waits }
         ensures frame { MakesPageEntry self.old self.new self.new.size }

@@ -2,6 +2,7 @@
 
 ghost use Rattle.std.specs.Prelude.{◌≡◌, ◌<◌, ◌≤◌, ◌+◌, ◌-◌, ◌&&◌, ◌==◌};
 ghost use Rattle.std.specs.Prelude.{is_some, Some, None};
+ghost use Rattle.rv_words.specs.Limits.{longest_log};
 ghost use Rattle.log_entry.specs.declared.log.Entry.TheVariants.{Yield};
 ghost use Rattle.log_entry.specs.Parts.{strength, conflict};
 ghost use Rattle.order_rules.specs.Holders.{held};
@@ -28,7 +29,7 @@ impl Crew {
         requires hart { hart < self.old.harts }
         requires page { page < self.old.pages }
         requires less { strength left < strength (held self.old.directory.holders page hart) }
-        requires bytes { self.old.size + YIELD_BYTES ≤ 536870912 }
+        requires bytes { self.old.size + YIELD_BYTES ≤ longest_log }
         requires room { HasRoomFor 1 self.old.seats hart }
         ensures frame { MakesPageEntry self.old self.new (self.old.size + YIELD_BYTES) }
         ensures devices { self.new.backing.devices ≡ self.old.backing.devices }

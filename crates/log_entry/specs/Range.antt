@@ -3,7 +3,7 @@ use Rattle.std.specs.Prelude.{ℕ, ◌&&◌, ◌^◌, nat_lt, nat_le, Bool, true
 use Rattle.std.specs.List.{list_all}
 use Rattle.rv_words.specs.declared.shared.Mode.{Mode}
 use Rattle.rv_words.specs.declared.shared.Mode.TheVariants.{Read, Write}
-use Rattle.rv_words.specs.Limits.{most_pages}
+use Rattle.rv_words.specs.Limits.{most_pages, most_moves}
 use Rattle.log_entry.specs.declared.waits.WaitFor.{WaitFor}
 use Rattle.log_entry.specs.declared.log.Entry.{Entry}
 use Rattle.log_entry.specs.declared.log.Entry.TheVariants.{Gain, Yield, Poll, Touch, End}
@@ -37,5 +37,5 @@ abbrev pub in_range : Log → Bool
 in_range log =
     nat_le 1 (length log.streams) && nat_le (length log.streams) 8
     && nat_le 1 log.pages && nat_le log.pages most_pages
-    && nat_le log.limit 1000000000000
+    && nat_le log.limit most_moves
     && list_all (is_stream (length log.streams) (units_of log)) log.streams

@@ -7,7 +7,7 @@ use Rattle.rv_words.specs.declared.shared.Input.{Input}
 use Rattle.rv_words.specs.declared.shared.Input.TheVariants as inputs
 use Rattle.rv_words.specs.declared.shared.Cause.{Cause}
 use Rattle.rv_words.specs.declared.shared.Cause.TheVariants as causes
-use Rattle.rv_words.specs.Limits.{most_pages}
+use Rattle.rv_words.specs.Limits.{most_pages, most_moves}
 use Rattle.log_entry.specs.declared.waits.WaitFor.{WaitFor}
 use Rattle.log_entry.specs.Waits.{WaitList}
 use Rattle.log_entry.specs.declared.log.Entry.{Entry}
@@ -199,7 +199,7 @@ Head = ℕ × (ℕ × (ℕ × (ℕ × (ℕ × List ℕ))))
 unfoldable pub head_format : Format Head
 head_format =
     bind (u32 2 (exactly magic)) (λ _. bind (u8 3 (exactly 1)) (λ _. bind (u8 4 (between 1 8)) (λ _.
-    bind (u16 5 (between 1 most_pages)) (λ _. bind (u64 6 (at_most 1000000000000)) (λ _. block 32)))))
+    bind (u16 5 (between 1 most_pages)) (λ _. bind (u64 6 (at_most most_moves)) (λ _. block 32)))))
 
 abbrev pub head_of : Log → Head
 head_of log = (magic, (1, (length log.streams, (log.pages, (log.limit, log.image)))))

@@ -1,7 +1,7 @@
 //! Which logs have bytes.
 ghost use Rattle.std.specs.Prelude.{◌≡◌, ◌&&◌, nat_lt, nat_le, length};
 ghost use Rattle.std.specs.List.{list_all};
-ghost use Rattle.rv_words.specs.Limits.{most_pages};
+ghost use Rattle.rv_words.specs.Limits.{most_pages, most_moves};
 ghost use Rattle.log_entry.specs.Range.{is_wait, is_left, in_range, is_stream, is_entry};
 
 use log_entry::{Entries, Entry, Log, Mode, WaitFor, Waits};
@@ -67,7 +67,7 @@ fn all_streams(harts: usize, units: u16, streams: &[Entries]) -> bool
 
 fn is_board(harts: usize, pages: u16, limit: u64) -> bool
     ensures { result ≡ (nat_le 1 harts && nat_le harts 8
-        && nat_le 1 pages && nat_le pages most_pages && nat_le limit 1000000000000) }
+        && nat_le 1 pages && nat_le pages most_pages && nat_le limit most_moves) }
 {
     1 <= harts && harts <= 8 && 1 <= pages && pages <= MOST_PAGES && limit <= 1_000_000_000_000
 }

@@ -1,6 +1,7 @@
 //! What a case comes to.
 
 ghost use Rattle.std.specs.Prelude.{◌≤◌, IfOk};
+ghost use Rattle.rv_words.specs.Limits.{most_moves, longest_log};
 
 use crate::case::Case;
 use anyhow::{Result, anyhow, bail, ensure};
@@ -107,9 +108,9 @@ fn in_rounds(alloc: Global, came: &Came) -> Result<Told> {
 fn image_of(alloc: Global, case: &Case) -> Result<Image>
     ensures least { IfOk result (λ image. 1 ≤ case.now.harts) }
     ensures most { IfOk result (λ image. case.now.harts ≤ MAX_HARTS) }
-    ensures limit { IfOk result (λ image. case.now.limit ≤ 1000000000000) }
+    ensures limit { IfOk result (λ image. case.now.limit ≤ most_moves) }
     ensures log_least { IfOk result (λ image. 1024 ≤ case.now.log_limit) }
-    ensures log_most { IfOk result (λ image. case.now.log_limit ≤ 536870912) }
+    ensures log_most { IfOk result (λ image. case.now.log_limit ≤ longest_log) }
 {
     ensure!(
         1 <= case.harts && case.harts <= MAX_HARTS,

@@ -1,6 +1,7 @@
 //! A board with the runs of its harts, and what each was told last.
 
 ghost use Rattle.std.specs.Prelude.{ℕ, ◌≡◌, ◌<◌, ◌≤◌, IfOk, IfErr, OnOk};
+ghost use Rattle.rv_words.specs.Limits.{most_moves, longest_log};
 ghost use Rattle.crew_parts.specs.Boards.{world, plain_at_start, EndsAs};
 ghost use Rattle.crew_parts.specs.Parts.{number_of, until_by, IsPartMoved};
 ghost use Rattle.crew_parts.specs.Turns.{HasTurn};
@@ -64,9 +65,9 @@ impl<C: Console, K: Clock> Recorder<C, K> {
     ) -> Result<Recorder<C, K>, OutOfMemory<C, K>>
         requires least { 1 ≤ harts }
         requires most { harts ≤ MAX_HARTS }
-        requires limit { limit ≤ 1000000000000 }
+        requires limit { limit ≤ most_moves }
         requires log_least { 1024 ≤ log_limit }
-        requires log_most { log_limit ≤ 536870912 }
+        requires log_most { log_limit ≤ longest_log }
         ensures board { IfOk result
             (λ r. r.board ≡ plain_at_start image.now harts limit log_limit (world (C.seen console) (K.seen clock))) }
         ensures manned { IfOk result (λ r. IsManned r.board r.runs.items r.orders still) }

@@ -2,6 +2,7 @@
 
 ghost use Rattle.std.specs.Prelude.{◌≡◌, ◌↔◌, ◌<◌, ◌≤◌, nat_lt, map, IsTrue, MatchResult, OnOk};
 ghost use Rattle.std.specs.List.{list_all};
+ghost use Rattle.rv_words.specs.Limits.{most_moves, longest_log};
 ghost use Rattle.orders_law.specs.Orders.{below};
 ghost use Rattle.turn_model.specs.Laws.{OfHarts};
 ghost use Rattle.crew_parts.specs.Boards.{world, plain_at_start};
@@ -104,9 +105,9 @@ pub fn record_list<C: Console, K: Clock>(
 ) -> Result<Recorded<C, K>, OutOfMemory<C, K>>
     requires least { 1 ≤ harts }
     requires most { harts ≤ MAX_HARTS }
-    requires limit { limit ≤ 1000000000000 }
+    requires limit { limit ≤ most_moves }
     requires log_least { 1024 ≤ log_limit }
-    requires log_most { log_limit ≤ 536870912 }
+    requires log_most { log_limit ≤ longest_log }
     requires list { OfHarts harts list.now }
     ensures { MatchResult result
         (λ r. RecordsByList list.now

@@ -1,5 +1,6 @@
 -- The files that a command fetches, and what comes of it.
 use Rattle.std.specs.Prelude.{ℕ, ◌≡◌, ◌≤◌, List, length, Some, IsTrue, Result, Ok, Err}
+use Rattle.rv_words.specs.Limits.{longest_log}
 use Rattle.outside.specs.Fetching.{IsPast}
 use Rattle.outside.specs.Causes.{Rose}
 use Rattle.outside.specs.Seen.{SeenShelf, HoldsAsBefore, HoldsMore}
@@ -11,7 +12,7 @@ use Rattle.revirt_tool.specs.declared.ending.Ending.TheVariants.{TooLong, NoMemo
 -- the most bytes of a file
 abbrev pub longest : File → ℕ
 longest Image = 67108864
-longest Log = 536870912
+longest Log = longest_log
 
 -- the file that was fetched from the shelf s, which held it under its name, where the shelf t tells: a fetch may be the end of what a
 -- shelf tells, so of a file that is fetched after another one it is known where the shelf tells afterwards

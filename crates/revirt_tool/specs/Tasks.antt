@@ -1,6 +1,6 @@
 -- What the words ask for (docs/command-line.md).
 use Rattle.std.specs.Prelude.{ℕ, ◌≡◌, ◌≢◌, ◌≤◌, ◌⊎◌, List, Option, Some, None, option_map, IfSome, Ok, Err}
-use Rattle.rv_words.specs.Limits.{most_pages}
+use Rattle.rv_words.specs.Limits.{most_pages, most_moves, longest_log}
 use Rattle.rv_words.specs.declared.shared.TheConstants.{MAX_HARTS}
 use Rattle.command_words.specs.Texts.{word_at}
 use Rattle.command_words.specs.Grammar.{job_of}
@@ -104,14 +104,14 @@ pub record IsAllowedRecording (r : Request) : Type 0 where
   pub most_harts : r.harts ≤ MAX_HARTS
   pub least_pages : 1 ≤ r.pages
   pub most_pages : r.pages ≤ most_pages
-  pub limit : r.limit ≤ 1000000000000
+  pub limit : r.limit ≤ most_moves
   pub shortest : 1024 ≤ r.log_limit
-  pub longest : r.log_limit ≤ 536870912
+  pub longest : r.log_limit ≤ longest_log
   pub names : IfSome r.dump (λ d. d.now ≢ r.log.now)
 
 abbrev pub IsAllowed : Command → Type 0
 IsAllowed (commands.Record r) = IsAllowedRecording r
-IsAllowed (commands.Trace r) = (r.from ≤ r.to) × (r.to ≤ 1000000000000)
+IsAllowed (commands.Trace r) = (r.from ≤ r.to) × (r.to ≤ most_moves)
 IsAllowed command = Unit {0}
 
 abbrev pub IsFetchedBy : Option Task → List ℕ → Type 0

@@ -2,7 +2,7 @@
 
 ghost use Rattle.std.specs.Prelude.{◌≡◌, ◌≢◌, ◌≤◌, ◌++◌, IsTrue, IsSome, Some, false, length, IfSome, OnOk};
 ghost use Rattle.rv_words.specs.declared.shared.Cause.TheVariants as causes;
-ghost use Rattle.rv_words.specs.Limits.{most_pages};
+ghost use Rattle.rv_words.specs.Limits.{most_pages, most_moves, longest_log};
 ghost use Rattle.rv_words.specs.declared.shared.TheConstants.{MAX_HARTS};
 ghost use Rattle.log_entry.specs.Range.{in_range};
 ghost use Rattle.outside.specs.Causes.{HasCause};
@@ -121,9 +121,9 @@ pub(crate) fn record<T: Threads + Sync, S: Shelf, C: Console, K: Clock, G: Gate>
     requires most_harts { request.now.harts ≤ MAX_HARTS }
     requires least { 1 ≤ request.now.pages }
     requires most { request.now.pages ≤ most_pages }
-    requires limit { request.now.limit ≤ 1000000000000 }
+    requires limit { request.now.limit ≤ most_moves }
     requires shortest { 1024 ≤ request.now.log_limit }
-    requires longest { request.now.log_limit ≤ 536870912 }
+    requires longest { request.now.log_limit ≤ longest_log }
     requires names { IfSome request.now.dump (λ d. d.now ≢ request.now.log.now) }
     ensures writing { (S.seen shelf.new).writing ≡ false }
     ensures tells { ToldBefore (S.seen shelf.old).tells (S.seen shelf.new).tells }

@@ -1,6 +1,7 @@
 //! The command that tells the moves of a hart.
 
 ghost use Rattle.std.specs.Prelude.{◌≡◌, ◌≤◌, IsTrue, false};
+ghost use Rattle.rv_words.specs.Limits.{most_moves};
 ghost use Rattle.elf_image.specs.Image.{IsWhole};
 ghost use Rattle.log_entry.specs.Range.{in_range};
 ghost use Rattle.revirt_tool.specs.Tasks.{trace_by};
@@ -37,7 +38,7 @@ fn moves_told(
     requires whole { IsWhole image.now }
     requires pages { log.pages ≡ image.now.pages }
     requires from { request.now.from ≤ request.now.to }
-    requires to { request.now.to ≤ 1000000000000 }
+    requires to { request.now.to ≤ most_moves }
     ensures { TellsAs (λ v. v.items) (trace_by request.now) log image.now result }
 {
     let orderly = match in_order(alloc, log) {
@@ -77,7 +78,7 @@ fn traced<S: Shelf>(alloc: Global, request: &TraceRequest, shelf: &mut S) -> End
     requires log { S.has shelf.old request.now.log.now }
     requires image { S.has shelf.old request.now.image.now }
     requires from { request.now.from ≤ request.now.to }
-    requires to { request.now.to ≤ 1000000000000 }
+    requires to { request.now.to ≤ most_moves }
     ensures writing { (S.seen shelf.new).writing ≡ (S.seen shelf.old).writing }
     ensures traces { TracesAs (trace_by request.now) (S.seen shelf.old) (S.seen shelf.new) result }
 {
@@ -109,7 +110,7 @@ pub(crate) fn trace<S: Shelf, C: Console, K: Clock>(
     requires log { S.has shelf.old request.now.log.now }
     requires image { S.has shelf.old request.now.image.now }
     requires from { request.now.from ≤ request.now.to }
-    requires to { request.now.to ≤ 1000000000000 }
+    requires to { request.now.to ≤ most_moves }
     ensures writing { (S.seen shelf.new).writing ≡ (S.seen shelf.old).writing }
     ensures traces { TracesAs (trace_by request.now) (S.seen shelf.old) (S.seen shelf.new) result.ending }
     ensures console { result.console ≡ console }

@@ -1,5 +1,6 @@
 -- Rounds until the board is over, and the turns behind them (docs/recorder.md).
 use Rattle.std.specs.Prelude.{ℕ, ◌≡◌, ◌⊎◌, ◌+◌, ◌<◌, ◌≤◌, nat_lt, true, List, slice_index, Option, if◌then◌else◌}
+use Rattle.rv_words.specs.Limits.{most_moves}
 use Rattle.orders_law.specs.Orders.{below}
 use Rattle.run_model.specs.Run.{Run}
 use Rattle.turn_model.specs.Rounds.{rounds, last_turns}
@@ -20,7 +21,7 @@ start_of p = plain_at_start p.image p.harts p.limit p.log_limit p.first
 -- a board before any turn, within its limit, whose harts stand at their latest turns
 pub record MayBegin (p : Plain) (runs : List Run) (orders : List (Option Order)) (stood : List ℕ) : Type 0 where
   pub start : p ≡ start_of p
-  pub limit : p.limit ≤ 1000000000000
+  pub limit : p.limit ≤ most_moves
   pub manned : IsManned p runs orders still
   pub stays : HaveStood p stood
 

@@ -1,6 +1,7 @@
 //! Rounds: three sweeps of turns, and the legs of all harts at once.
 
 ghost use Rattle.std.specs.Prelude.{ℕ, ◌≡◌, ◌<◌, ◌≤◌, ◌^◌, Bool, true, slice_index, MatchResult, OnOk};
+ghost use Rattle.rv_words.specs.Limits.{most_moves, longest_log};
 ghost use Rattle.crew_parts.specs.Boards.{world, plain_at_start, IsBoardOf};
 ghost use Rattle.recorded_turns.specs.Recordings.{RecordsInRounds};
 ghost use Rattle.recorder.specs.Manned.{HasGiven, HasTurnOf, IsManned, still};
@@ -124,7 +125,7 @@ impl<C: Console, K: Clock> Rounds<C, K> {
         requires start { self.old.recording.board ≡ start_of self.old.recording.board }
         requires manned { IsManned self.old.recording.board
             self.old.recording.runs.items self.old.recording.orders still }
-        requires limit { self.old.recording.board.limit ≤ 1000000000000 }
+        requires limit { self.old.recording.board.limit ≤ most_moves }
         requires stood { HaveStood self.old.recording.board self.old.stood }
         ensures given { HasGiven self.old.recording.board.now self.new.recording.board.now }
         ensures taken { OnOk result (RoundsEnd self.old.recording.board self.new.recording.board
@@ -178,7 +179,7 @@ impl<C: Console, K: Clock> Rounds<C, K> {
     /// Rounds until the board is over, and the last turns.
     fn all<G: Gate>(&mut self, alloc: Global, gate: &G, hands: &mut Hands) -> Result<(), NoMemory>
         requires start { self.old.recording.board ≡ start_of self.old.recording.board }
-        requires limit { self.old.recording.board.limit ≤ 1000000000000 }
+        requires limit { self.old.recording.board.limit ≤ most_moves }
         requires manned { IsManned self.old.recording.board
             self.old.recording.runs.items self.old.recording.orders still }
         requires stood { HaveStood self.old.recording.board self.old.stood }
@@ -227,9 +228,9 @@ pub fn record_rounds<T: Threads + Sync, C: Console, K: Clock, G: Gate>(
 ) -> Result<Recorded<C, K>, OutOfMemory<C, K>>
     requires least { 1 ≤ harts }
     requires most { harts ≤ MAX_HARTS }
-    requires limit { limit ≤ 1000000000000 }
+    requires limit { limit ≤ most_moves }
     requires log_least { 1024 ≤ log_limit }
-    requires log_most { log_limit ≤ 536870912 }
+    requires log_most { log_limit ≤ longest_log }
     ensures { MatchResult result
         (λ r. RecordsInRounds
         (plain_at_start image.now harts limit log_limit (world (C.seen console) (K.seen clock)))

@@ -13,6 +13,14 @@ most_pages = 4096
 abbrev pub poll_distance : ℕ
 poll_distance = 4096
 
+-- the most moves that a hart makes (docs/log-format.md)
+abbrev pub most_moves : ℕ
+most_moves = 1000000000000
+
+-- the most bytes of a log (docs/command-line.md)
+abbrev pub longest_log : ℕ
+longest_log = 536870912
+
 -- how many bytes may be owned together: each divides a page, and words don't straddle them
 abbrev pub IsUnit : ℕ → Type 0
 IsUnit unit = (unit ≡ 256) ⊎ ((unit ≡ 1024) ⊎ (unit ≡ page_bytes))

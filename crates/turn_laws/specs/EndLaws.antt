@@ -1,5 +1,6 @@
 -- How recordings end, and that their logs can be written (docs/recorder.md).
 use Rattle.std.specs.Prelude.{ℕ, ◌≡◌, ◌+◌, ◌-◌, ◌^◌, ◌<◌, ◌≤◌, true, List, replicate, length, Option, Some, None}
+use Rattle.rv_words.specs.Limits.{most_moves}
 use Rattle.rv_words.specs.declared.shared.Mode.TheVariants.{Write}
 use Rattle.rv_words.specs.declared.shared.Cause.TheVariants.{Full, Fault}
 use Rattle.rv_words.specs.declared.shared.DeviceWord.{DeviceWord}
@@ -75,7 +76,7 @@ pub record AreInLimits (terms : Terms) (image : Image) (harts : ℕ) : Type 0 wh
   pub pages : terms.pages ≡ image.pages
   pub least_harts : 1 ≤ harts
   pub most_harts : harts ≤ MAX_HARTS
-  pub limit : terms.limit ≤ 1000000000000
+  pub limit : terms.limit ≤ most_moves
   pub frame : frame_size (unit_in terms) harts ≤ terms.log_limit
   pub bytes : terms.log_limit < 2 ^ 32
 
