@@ -5,3 +5,6 @@ pub mod Ranges
 mod Fits
 pub mod Spelling
 pub mod Sizes
+mod Packed
+mod PartsOf
+mod Places

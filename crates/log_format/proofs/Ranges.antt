@@ -133,7 +133,7 @@ pick : (b : Bool) → (b ≡ false → ⊥) → b ≡ true
 pick true h = refl
 pick false h = absurd (h refl)
 
-list_all_get : {X : Type 0} (p : X → Bool) (xs : List X) (i : ℕ) (d : X) → i < length xs → list_all p xs ≡ true → p (get_or xs i d) ≡ true
+pub list_all_get : {X : Type 0} (p : X → Bool) (xs : List X) (i : ℕ) (d : X) → i < length xs → list_all p xs ≡ true → p (get_or xs i d) ≡ true
 list_all_get p xs i d lt all = pick (p (get_or xs i d)) (λ e. clash (list_all p xs) all (list_all_at p xs i d lt e))
 
 pub page_fits : (page units : ℕ) → units ≤ most_pages → nat_lt page units ≡ true → page < 2 ^ 16

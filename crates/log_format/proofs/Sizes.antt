@@ -78,7 +78,7 @@ behind_head a b c d e image p q r s t =
     let le = length-append e image in
     omega (arith, la, lb, lc, ld, le, p, q, r, s, t)
 
-head_size : (log : Log) → length (head_format.spell (head_of log)) ≡ 16 + length log.image
+pub head_size : (log : Log) → length (head_format.spell (head_of log)) ≡ 16 + length log.image
 unfolding head_format
 head_size log =
     behind_head (to_le_bytes w32 0x4C545652) (to_le_bytes w8 1) (to_le_bytes w8 (length log.streams)) (to_le_bytes w16 log.pages)

@@ -1,8 +1,7 @@
 -- What is spelled does not depend on bounds, nor on the room of waits.
-use Rattle.std.proofs.Common.{◌≡◌, ℕ, ◌+◌, ◌<◌, List, [], ◌∷◌, ◌++◌, length, get_or, take, map, refl, sym, ap, subst, ◌∙◌, append_assoc}
-use Rattle.std.specs.List.{flat_map, All}
+use Rattle.std.proofs.Common.{◌≡◌, ℕ, ◌+◌, ◌<◌, List, [], ◌∷◌, ◌++◌, length, get_or, take, map, refl, sym, ap, ◌∙◌, append_assoc}
+use Rattle.std.specs.List.{flat_map}
 use Rattle.std.proofs.lemmas.List.{length-map, flat_map_more, take_more}
-use Rattle.std.proofs.lemmas.List.Elements.{All-more}
 use Rattle.std.proofs.lemmas.List.Folds.{flat_map-map}
 use Rattle.log_entry.specs.declared.log.Entry.{Entry}
 use Rattle.log_entry.specs.declared.log.Entry.TheVariants.{Gain, Yield, Poll, Touch, End}
@@ -71,11 +70,9 @@ spelling-parts log streams same =
 pub behind : (o a b : List ℕ) {m n : List ℕ} → m ≡ o ++ a → n ≡ m ++ b → n ≡ o ++ (a ++ b)
 behind o a b first second = second ∙ ap (λ (x : List ℕ). x ++ b) first ∙ append_assoc o a b
 
--- one more of a list written behind the others, each of which has a property
-pub one_more : {X : Type 0} (f : X → List ℕ) (P : X → Type 0) (o : List ℕ) (xs : List X) (i : ℕ) (d x : X) {m n : List ℕ} → i < length xs → get_or xs i d ≡ x
-    → (m ≡ o ++ flat_map f (take i xs)) × All P (take i xs) → n ≡ m ++ f x → P x → (n ≡ o ++ flat_map f (take (i + 1) xs)) × All P (take (i + 1) xs)
-one_more f P o xs i d x within is before written holds = (
-  written ∙ ap (λ (bytes : List ℕ). bytes ++ f x) before.0 ∙ flat_map_more f o (take i xs) x
-      ∙ ap (λ (ys : List _). o ++ flat_map f ys) (ap (λ y. take i xs ++ y ∷ []) (sym is) ∙ sym (take_more xs i d within)),
-  All-more P xs i d within before.1 (subst P (sym is) holds),
-)
+-- one more of a list written behind the others
+pub one_more : {X : Type 0} (f : X → List ℕ) (o : List ℕ) (xs : List X) (i : ℕ) (d x : X) {m n : List ℕ} → i < length xs → get_or xs i d ≡ x
+    → m ≡ o ++ flat_map f (take i xs) → n ≡ m ++ f x → n ≡ o ++ flat_map f (take (i + 1) xs)
+one_more f o xs i d x within is before written =
+    written ∙ ap (λ (bytes : List ℕ). bytes ++ f x) before ∙ flat_map_more f o (take i xs) x
+    ∙ ap (λ (ys : List _). o ++ flat_map f ys) (ap (λ y. take i xs ++ y ∷ []) (sym is) ∙ sym (take_more xs i d within))

@@ -3,3 +3,6 @@ pub mod Grammar
 pub mod Answers
 pub mod Writing
 pub mod Sizes
+pub mod Parts
+pub mod Pieces
+pub mod Given

@@ -1,16 +1,26 @@
-use Rattle.std.proofs.Common.{ℕ, List, ◌++◌, length, ap, ◌∙◌}
+use Rattle.std.proofs.Common.{◌≡◌, ◌∷◌, ℕ, List, [], ◌++◌, length, ap, sym, subst, ◌∙◌}
+use Rattle.std.specs.Prelude.{MatchOption}
+use Rattle.std.specs.List.{concat}
+use Rattle.std.proofs.lemmas.List.{append-nil}
 use Rattle.log_format.specs.Grammar.{spelling, reading}
+use Rattle.log_format.specs.Given.{pieces_left}
 use Rattle.log_format.proofs.Fits.{read-again}
 use Rattle.log_format.proofs.Sizes.{have_their_sizes}
 use Rattle.log_format.proofs.writing.write_log.Goals as goal
 
-pub returns-in-Ok-clause-size : goal.returns-in-Ok-clause-size
-returns-in-Ok-clause-size c =
+whole : (c : goal.After-drop-pieces-2) → c.loop-piece.out.items ≡ spelling c.args.l.now
+whole c =
     let log = c.args.l.now in
-    ap length (c.in-Ok.ensures.bytes ∙ ap (λ (bytes : List ℕ). bytes ++ spelling log) c.new-out.ensures.items) ∙ have_their_sizes.log log c.in-Ok.ensures.digest
+    let out = c.loop-piece.out.items in
+    let left : List (List ℕ) = pieces_left c.loop-piece.pieces log in
+    let none : left ≡ [] =
+    subst (λ r. MatchOption r (left ≡ []) (λ piece. left ≡ piece.now ∷ pieces_left c.next_piece.follows.lender-at-none log)) c.in_default.is
+    c.next_piece.follows.holds-at-none.piece in
+    sym (append-nil out) ∙ ap (λ (ps : List (List ℕ)). out ++ concat ps) (sym none) ∙ c.loop-piece.invariant.bytes
 
-pub returns-in-Ok-clause-again : goal.returns-in-Ok-clause-again
-returns-in-Ok-clause-again c =
-    let log = c.args.l.now in
-    ap reading (c.in-Ok.ensures.bytes ∙ ap (λ (bytes : List ℕ). bytes ++ spelling log) c.new-out.ensures.items)
-    ∙ read-again log c.requires c.in-Ok.ensures.narrow c.in-Ok.ensures.digest
+pub returns-clause-size : goal.returns-clause-size
+returns-clause-size c = ap length (whole c) ∙ have_their_sizes.log c.args.l.now c.log_is_narrow.ensures.digest
+
+pub returns-clause-again : goal.returns-clause-again
+returns-clause-again c =
+    ap reading (whole c) ∙ read-again c.args.l.now c.requires c.log_is_narrow.ensures.streams c.log_is_narrow.ensures.digest
