@@ -1,16 +1,20 @@
 //! The pieces of a log, one after the other.
 
-ghost use Rattle.std.specs.Prelude.{◌≡◌, ◌≤◌, ◌<◌, ◌∷◌, [], IfOk, IsTrue, MatchBool, nat_lt, length};
+ghost use Rattle.std.specs.Prelude.{◌≡◌, ◌≤◌, ◌<◌, ◌∷◌, [], IfOk, Ok, IsTrue, MatchBool, nat_lt, length};
 ghost use Rattle.std.specs.List.{concat};
 ghost use Rattle.std.specs.Borrow.{sem};
 ghost use Rattle.std.specs.Io.BufRead.{Rests};
+ghost use Rattle.log_entry.specs.Parts.{unit_of};
 ghost use Rattle.log_entry.specs.Range.{in_range};
-ghost use Rattle.log_format.specs.Grammar.{spelling};
+ghost use Rattle.log_entry.specs.Room.{log_without_room};
+ghost use Rattle.log_entry.specs.Size.{size_of_log};
+ghost use Rattle.log_format.specs.Grammar.{spelling, reading};
 ghost use Rattle.log_format.specs.contracts.pieces.LogPieces.{the_row};
 ghost use Rattle.log_format.specs.Pieces.{pieces_of, Adds, packed, piece_bytes};
 ghost use Rattle.log_format.specs.Given.{IsAt, Gives, parts_at, place_after, pieces_left};
 
 use crate::buffer::Buffer;
+use crate::narrow::log_is_narrow;
 use log_entry::Log;
 use shared_types::NoMemory;
 use std::alloc::Global;
@@ -56,7 +60,10 @@ impl LogPieces {
         ensures at { IfOk result (λ p. IsAt p l.now) }
         ensures pieces { IfOk result (λ p. pieces_left p l.now ≡ pieces_of l.now) }
         ensures bytes { IfOk result (λ p. concat (pieces_left p l.now) ≡ spelling l.now) }
+        ensures size { IfOk result (λ p. length (spelling l.now) ≡ size_of_log (unit_of l.now) l.now.streams) }
+        ensures again { IfOk result (λ p. reading (spelling l.now) ≡ Ok (log_without_room l.now)) }
     {
+        log_is_narrow(l);
         let buffer = Buffer::start(alloc)?;
         Ok(LogPieces {
             begun: false,

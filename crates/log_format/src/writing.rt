@@ -1,12 +1,11 @@
 //! The bytes of a log as a whole.
-ghost use Rattle.std.specs.Prelude.{◌≡◌, length, IfOk, All, IsTrue, Ok};
+ghost use Rattle.std.specs.Prelude.{◌≡◌, length, IfOk, IsTrue, Ok};
 ghost use Rattle.log_entry.specs.Parts.{unit_of};
 ghost use Rattle.log_entry.specs.Range.{in_range};
 ghost use Rattle.log_entry.specs.Room.{log_without_room};
 ghost use Rattle.log_entry.specs.Size.{size_of_log};
 ghost use Rattle.log_format.specs.Grammar.{spelling, reading};
 
-use crate::narrow::log_is_narrow;
 use crate::pieces::LogPieces;
 use log_entry::Log;
 use shared_types::NoMemory;
@@ -19,7 +18,6 @@ pub fn write_log(alloc: Global, l: &Log) -> Result<Vec<u8>, NoMemory>
     ensures size { IfOk result (λ bytes. length bytes.items ≡ size_of_log (unit_of l.now) l.now.streams) }
     ensures again { IfOk result (λ bytes. reading bytes.items ≡ Ok (log_without_room l.now)) }
 {
-    log_is_narrow(l);
     let mut pieces = LogPieces::start(alloc, l)?;
     let mut out = Vec::new(alloc);
     while let Some(piece) = pieces.next_piece(l) {

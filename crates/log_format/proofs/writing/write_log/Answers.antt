@@ -4,8 +4,6 @@ use Rattle.std.specs.List.{concat}
 use Rattle.std.proofs.lemmas.List.{append-nil}
 use Rattle.log_format.specs.Grammar.{spelling, reading}
 use Rattle.log_format.specs.Given.{pieces_left}
-use Rattle.log_format.proofs.Fits.{read-again}
-use Rattle.log_format.proofs.Sizes.{have_their_sizes}
 use Rattle.log_format.proofs.writing.write_log.Goals as goal
 
 whole : (c : goal.After-drop-pieces-2) → c.loop-piece.out.items ≡ spelling c.args.l.now
@@ -19,8 +17,7 @@ whole c =
     sym (append-nil out) ∙ ap (λ (ps : List (List ℕ)). out ++ concat ps) (sym none) ∙ c.loop-piece.invariant.bytes
 
 pub returns-clause-size : goal.returns-clause-size
-returns-clause-size c = ap length (whole c) ∙ have_their_sizes.log c.args.l.now c.log_is_narrow.ensures.digest
+returns-clause-size c = ap length (whole c) ∙ c.in_ok-pieces.ensures.size
 
 pub returns-clause-again : goal.returns-clause-again
-returns-clause-again c =
-    ap reading (whole c) ∙ read-again c.args.l.now c.requires c.log_is_narrow.ensures.streams c.log_is_narrow.ensures.digest
+returns-clause-again c = ap reading (whole c) ∙ c.in_ok-pieces.ensures.again
