@@ -1,10 +1,13 @@
 //! The command that records a run.
 
 ghost use Rattle.std.specs.Prelude.{◌≡◌, ◌≢◌, ◌≤◌, ◌++◌, IsTrue, IsSome, Some, false, length, IfSome, OnOk};
+ghost use Rattle.std.specs.List.{concat};
 ghost use Rattle.rv_words.specs.declared.shared.Cause.TheVariants as causes;
 ghost use Rattle.rv_words.specs.Limits.{most_pages, most_moves, longest_log};
 ghost use Rattle.rv_words.specs.declared.shared.TheConstants.{MAX_HARTS};
 ghost use Rattle.log_entry.specs.Range.{in_range};
+ghost use Rattle.log_format.specs.Grammar.{spelling};
+ghost use Rattle.log_format.specs.Given.{IsAt, pieces_left};
 ghost use Rattle.outside.specs.Causes.{HasCause};
 ghost use Rattle.outside.specs.Seen.{ToldBefore, Holds, OthersHold};
 ghost use Rattle.crew_parts.specs.Boards.{world};
@@ -17,7 +20,7 @@ use crew_core::{OutOfMemory, Recorded};
 use elf_image::{Image, ImageError, read_image};
 use flat_machine::Final;
 use log_entry::{Cause, Log};
-use log_format::write_log;
+use log_format::LogPieces;
 use outside::{Clock, Console, Failed, Gate, Shelf, keep};
 use report_view::report_text;
 use round_run::record_rounds;
@@ -48,6 +51,29 @@ pub(crate) fn keep_dump<S: Shelf>(shelf: &mut S, name: &str, ended: &Final) -> R
     keep(shelf, name, &[ended.memory.items(), ended.sent.items()])
 }
 
+/// Keeps the log: its pieces, one behind the other, of which none has been given.
+fn keep_log<S: Shelf>(
+    shelf: &mut S,
+    name: &str,
+    mut pieces: LogPieces,
+    log: &Log,
+) -> Result<(), Failed>
+    requires writing { (S.seen shelf.old).writing ≡ false }
+    requires at { IsAt pieces log.now }
+    requires whole { concat (pieces_left pieces log.now) ≡ spelling log.now }
+    ensures writing { (S.seen shelf.new).writing ≡ false }
+    ensures tells { ToldBefore (S.seen shelf.old).tells (S.seen shelf.new).tells }
+    ensures kept { OnOk result (Holds (S.seen shelf.new) name.now (spelling log.now)) }
+    ensures others { OthersHold name.now (S.seen shelf.old) (S.seen shelf.new) }
+    ensures cause { HasCause (S.seen shelf.old).faults (S.seen shelf.new).faults result }
+{
+    shelf.begin(name)?;
+    while let Some(piece) = pieces.next_piece(log) {
+        shelf.append(piece)?;
+    }
+    shelf.finish()
+}
+
 /// Keeps the log and, where one is asked for, the dump.
 fn keep_run<S: Shelf>(
     alloc: Global,
@@ -65,13 +91,13 @@ fn keep_run<S: Shelf>(
     ensures tells { ToldBefore (S.seen shelf.old).tells (S.seen shelf.new).tells }
     ensures keeps { KeepsAs (wish_by request.now) log.now ended.now (S.seen shelf.old) (S.seen shelf.new) result }
 {
-    let Ok(bytes) = write_log(alloc, log) else {
+    let Ok(pieces) = LogPieces::start(alloc, log) else {
         return Ending::NoMemory;
     };
     let Ok(report) = report_text(alloc, ended) else {
         return Ending::NoMemory;
     };
-    if keep(shelf, request.log, &[bytes.as_slice()]).is_err() {
+    if keep_log(shelf, request.log, pieces, log).is_err() {
         return Ending::ShelfFault;
     }
     if let Some(name) = request.dump {

@@ -189,7 +189,7 @@ pub(crate) fn failing_ends() -> [Row; 4] {
     console.entries = "p0:0.5.0 g0:0.0r t2:1.n t3:2.n e4";
     let mut unkept = plain_row(words, sends(), 4, "shelf fault");
     unkept.console_fails = &[2];
-    unkept.shelf_fails = &[5];
+    unkept.shelf_fails = &[6];
     unkept.length = 145;
     unkept.entries = "p0:0.5.0 g0:0.0r t2:1.n t3:2.n e4";
     let mut unprinted = plain_row(words, sends(), 5, "");
@@ -220,18 +220,20 @@ fn failing_dump(fails: &'static [u64]) -> Row {
     row
 }
 
-/// Runs in which the shelf fails. Of its calls, 0 fetches, 1 to 3 keep the log, and 4 to 7 the dump: no bytes were sent,
-/// and they are appended all the same, as call 6, so that 7 is what finishes the dump.
-fn failing_shelves() -> [Row; 9] {
+/// Runs in which the shelf fails. Of its calls, 0 fetches, 1 to 4 keep the log, with its head as call 2 and all behind it
+/// as call 3, and 5 to 8 the dump: no bytes were sent, and they are appended all the same, as call 7, so that 8 is what
+/// finishes the dump.
+fn failing_shelves() -> [Row; 10] {
     [
         failing_call(&[0]),
         failing_call(&[1]),
         failing_call(&[2]),
         failing_call(&[3]),
-        failing_dump(&[4]),
+        failing_call(&[4]),
         failing_dump(&[5]),
         failing_dump(&[6]),
         failing_dump(&[7]),
+        failing_dump(&[8]),
         plain_row("record h l", smallest(), 4, "shelf fault"),
     ]
 }
