@@ -50,7 +50,7 @@ fn end(count: u64) -> Entry {
     Entry::End { count }
 }
 
-fn smallest_log(alloc: Global) -> Result<Log, Fail> {
+pub(crate) fn smallest_log(alloc: Global) -> Result<Log, Fail> {
     let first = gain(alloc, 0, 0, 0);
     let stop = touch(2, 1, Input::Nothing);
     let stream = Entries::of(vec![in alloc; poll(0), first, stop, end(3)]?);
@@ -94,7 +94,7 @@ fn gains(alloc: Global) -> Result<Entries, Fail> {
 }
 
 /// Hart 1 gains a page that hart 0 yielded.
-fn shared_page_log(alloc: Global) -> Result<Log, Fail> {
+pub(crate) fn shared_page_log(alloc: Global) -> Result<Log, Fail> {
     let yields = yields(alloc)?;
     let mut shared = log(2, 11, vec![in alloc; yields, gains(alloc)?]?);
     shared.cause = Cause::Full;

@@ -54,3 +54,5 @@ mod directory_tests;
 mod entry_tests;
 #[cfg(test)]
 mod order_tests;
+#[cfg(test)]
+mod pieces_tests;
