@@ -1,0 +1,13 @@
+pub mod Parts
+pub mod StepsKept
+pub mod Unnoted
+pub mod ByTurns
+pub mod OneTurn
+pub mod Working
+pub mod Pairing
+pub mod Closing
+pub mod Turning
+pub mod Freed
+pub mod Sent
+pub mod Over
+pub mod Right

@@ -1,0 +1,175 @@
+//! A thread for each hart, and this thread for those that none can be started for.
+
+ghost use Rattle.std.specs.Prelude.{◌≡◌, ◌<◌, ◌≤◌, ◌+◌, ◌++◌, [], ◌∷◌, All, vec_len, vec_capacity};
+ghost use Rattle.std.specs.List.{AllZip};
+ghost use Rattle.std.specs.Thread.{IsSend, IsSync};
+ghost use Rattle.free_run.specs.Workers.{HasWorked, IsReady};
+
+use crate::board::RecordBoard;
+use crate::worker::{Job, step, work};
+use outside::{Clock, Console, Gate};
+use std::alloc::Global;
+use std::snapshot::Snapshot;
+use std::sync::Wait;
+use std::sync::atomic::{AtomicBool, Ordering};
+use std::thread;
+use std::thread::{Promise, Threads};
+use turn_table::{Pass, TurnTable};
+
+/// A hart's pass, and its run.
+pub(crate) type Worker<C, K> = (Pass<RecordBoard<C, K>>, Job);
+
+/// What a thread hands back that was given a worker.
+#[derive(Drop)]
+struct Works<C: Console, K: Clock> {
+    table: Snapshot<TurnTable<RecordBoard<C, K>>>,
+    pass: Snapshot<Pass<RecordBoard<C, K>>>,
+}
+
+impl<C: Console, K: Clock> Promise<Worker<C, K>> for Works<C, K> {
+    ghost kept_by = { λ p w. HasWorked p.table.value p.pass.value w.0 w.1 };
+}
+
+/// One leg and one turn of each worker of this thread. True where there is no more to do.
+fn step_each<R: Wait, C: Console, K: Clock, G: Gate>(
+    wait: &R,
+    alloc: Global,
+    table: &TurnTable<RecordBoard<C, K>>,
+    gate: &G,
+    mine: &mut [Worker<C, K>],
+) -> bool
+    requires { All (λ w. IsReady table.now w.0 w.1) mine.old }
+    ensures { AllZip (λ a b. HasWorked table.now a.0 b.0 b.1) mine.old mine.new }
+{
+    let mut ended = true;
+    for i in 0..mine.len() {
+        let (pass, job) = &mut mine[i];
+        ended = step(wait, alloc, table, gate, pass, job) && ended;
+    }
+    ended
+}
+
+/// The workers of this thread, one leg after another, until there is no more to do.
+fn work_here<R: Wait, C: Console, K: Clock, G: Gate>(
+    wait: &R,
+    alloc: Global,
+    table: &TurnTable<RecordBoard<C, K>>,
+    gate: &G,
+    mine: &mut [Worker<C, K>],
+)
+    requires { All (λ w. IsReady table.now w.0 w.1) mine.old }
+    ensures { AllZip (λ a b. HasWorked table.now a.0 b.0 b.1) mine.old mine.new }
+{
+    for _ in wait.forever() {
+        if step_each(wait, alloc, table, gate, mine) {
+            return;
+        }
+    }
+    unreachable!()
+}
+
+/// Adds one for which there is room.
+pub(crate) fn put<X: Drop>(list: &mut Vec<X>, x: X)
+    requires { vec_len list.old < vec_capacity list.old }
+    ensures items { list.new.items ≡ list.old.items ++ x ∷ [] }
+    ensures count { vec_len list.new ≡ vec_len list.old + 1 }
+    ensures room { vec_capacity list.old ≤ vec_capacity list.new }
+{
+    let Ok(()) = list.push(x) else { unreachable!() };
+}
+
+/// Legs and turns of the worker that a thread was given; without any, where no thread was to be had.
+fn run_worker<R: Wait, C: Console, K: Clock, G: Gate>(
+    wait: &R,
+    alloc: Global,
+    table: &TurnTable<RecordBoard<C, K>>,
+    gate: &G,
+    refused: bool,
+    worker: Worker<C, K>,
+) -> Worker<C, K>
+    requires { IsReady table.now worker.0 worker.1 }
+    ensures { HasWorked table.now worker.0 result.0 result.1 }
+{
+    if refused {
+        return worker;
+    }
+    let (mut pass, mut job) = worker;
+    work(wait, alloc, table, gate, &mut pass, &mut job);
+    (pass, job)
+}
+
+/// A thread for each worker, and this thread for those that none can be started for. What is promised of the last
+/// worker is promised of the others.
+#[cycle(running)]
+pub(crate) fn run_list<T: Threads + Wait + Sync, C: Console, K: Clock, G: Gate>(
+    rt: &T,
+    alloc: Global,
+    table: &TurnTable<RecordBoard<C, K>>,
+    gate: &G,
+    mut workers: Vec<Worker<C, K>>,
+    mut mine: Vec<Worker<C, K>>,
+) -> (Vec<Worker<C, K>>, Vec<Worker<C, K>>)
+    requires ready { All (λ w. IsReady table.now w.0 w.1) workers.items }
+    requires mine { All (λ w. IsReady table.now w.0 w.1) mine.items }
+    requires room { vec_len workers + vec_len mine ≤ vec_capacity mine }
+    ensures worked { AllZip (λ a b. HasWorked table.now a.0 b.0 b.1) workers.items result.0.items }
+    ensures mine { AllZip (λ a b. HasWorked table.now a.0 b.0 b.1) mine.items result.1.items }
+    ensures count { vec_len result.0 ≡ vec_len workers }
+    ensures mine_count { vec_len result.1 ≡ vec_len mine }
+    ensures room { (vec_capacity workers ≤ vec_capacity result.0) × (vec_capacity mine ≤ vec_capacity result.1) }
+{
+    let Some(worker) = workers.pop() else {
+        work_here(rt, alloc, table, gate, mine.as_mut_slice());
+        return (workers, mine);
+    };
+    let refused = AtomicBool::new(false);
+    let refused = &refused;
+    thread::scope(
+        thread::scope_env(),
+        rt,
+        |scope| -> (Vec<Worker<C, K>>, Vec<Worker<C, K>>)
+            requires sync { IsSync T.row × IsSync G.row × IsSend C.row × IsSend K.row }
+            requires one { IsReady table.now worker.0 worker.1 }
+            requires ready { All (λ w. IsReady table.now w.0 w.1) workers.items }
+            requires mine { All (λ w. IsReady table.now w.0 w.1) mine.items }
+            requires room { vec_len workers + 1 + vec_len mine ≤ vec_capacity mine }
+            requires spare { vec_len workers < vec_capacity workers }
+            ensures worked { AllZip (λ a b. HasWorked table.entry.now a.0 b.0 b.1)
+                (workers.items ++ worker ∷ []) result.0.items }
+            ensures mine { AllZip (λ a b. HasWorked table.entry.now a.0 b.0 b.1) mine.items result.1.items }
+            ensures count { vec_len result.0 ≡ vec_len workers + 1 }
+            ensures mine_count { vec_len result.1 ≡ vec_len mine }
+            ensures room { (vec_capacity workers ≤ vec_capacity result.0)
+                × (vec_capacity mine ≤ vec_capacity result.1) }
+        {
+            let promise = Works {
+                table: Snapshot::of(table),
+                pass: Snapshot::of(&worker.0),
+            };
+            let run = move || -> Worker<C, K>
+                requires { IsReady table.now worker.0 worker.1 }
+                ensures { HasWorked table.entry.now worker.0 result.0 result.1 }
+            {
+                let refused = refused.load(Ordering::SeqCst);
+                run_worker(rt, alloc, table, gate, refused, worker)
+            };
+            match scope.spawn_with(promise, run) {
+                Ok(child) => {
+                    let (mut workers, mine) = run_list(rt, alloc, table, gate, workers, mine);
+                    put(&mut workers, child.join(rt));
+                    (workers, mine)
+                }
+                Err(back) => {
+                    refused.store(true, Ordering::SeqCst);
+                    put(&mut mine, (back.value)());
+                    let (mut workers, mut mine) = run_list(rt, alloc, table, gate, workers, mine);
+                    let Some(worker) = mine.pop() else {
+                        unreachable!()
+                    };
+                    put(&mut workers, worker);
+                    (workers, mine)
+                }
+            }
+        },
+    )
+}
