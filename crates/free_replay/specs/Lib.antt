@@ -1,0 +1,4 @@
+pub mod Parts
+pub mod ReplayTurns
+pub mod ReplayLegs
+pub mod Workers
