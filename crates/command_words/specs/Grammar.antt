@@ -1,8 +1,9 @@
 -- The words of the command line: a command, its names and numbers, then its options.
-use Rattle.std.specs.Prelude.{ℕ, ◌+◌, min, Bool, false, List, [], ◌∷◌, Some, None, Result, Ok, Err, codes, if◌then◌else◌}
+use Rattle.std.specs.Prelude.{ℕ, ◌+◌, min, Bool, true, false, not, List, [], ◌∷◌, Some, None, Result, Ok, Err, codes, if◌then◌else◌}
 use Rattle.std.specs.Str.{bytes_eq}
 use Rattle.command_words.specs.declared.job.Job.{Job}
-use Rattle.command_words.specs.declared.job.Job.TheVariants.{Inspect, Trace, Sample}
+use Rattle.command_words.specs.declared.job.Job.TheVariants.{Record, Replay, Inspect, Trace, Sample}
+use Rattle.command_words.specs.declared.job.Way.TheVariants.{Plain}
 use Rattle.command_words.specs.Texts.{is_name, number_in}
 use Rattle.command_words.specs.Options.{options, AnOption}
 use Rattle.command_words.specs.Tables.{record_option, no_record_option, recording, replay_option, no_replay_option, replaying}
@@ -74,8 +75,10 @@ job_of (command ∷ words) =
     else if bytes_eq command (codes "sample") then sample_of words
     else Err 0
 
--- whether a job is a free run; none is served yet
+-- whether a job is a free run: a recording without `--rounds`, or a replay without `--rounds` and `--one`
 abbrev pub is_free : Job → Bool
+is_free (Record image log harts pages limit log_limit dump rounds) = not rounds
+is_free (Replay image log dump Plain) = true
 is_free job = false
 
 abbrev pub asks_free_run : List (List ℕ) → Bool

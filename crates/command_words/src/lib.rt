@@ -52,11 +52,15 @@ pub fn read_words(words: &[String]) -> Result<Job, Usage>
     job_of(words)
 }
 
-/// Whether the words are in the grammar and ask for a free run. No free run is served yet, so no words do.
+/// Whether the words are in the grammar and ask for a free run.
 pub fn free_words(words: &[String]) -> bool
     ensures { result ≡ asks_free_run (texts words.now) }
 {
-    false
+    match job_of(words) {
+        Ok(Job::Record { rounds, .. }) => !rounds,
+        Ok(Job::Replay { way, .. }) => way == Way::Plain,
+        _ => false,
+    }
 }
 
 /// A refused word is the first that can't stand where it stands: words in the grammar begin with those before it, and

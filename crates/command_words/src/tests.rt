@@ -2,13 +2,18 @@ use crate::{Job, Usage, Way, free_words, read_words};
 use std::alloc::{AllocError, Global};
 use std::test::Fail;
 
-/// What a line asks for, whose words are parted by single blanks: two blanks have an empty word between them.
-fn asked(alloc: Global, line: &str) -> Result<Result<Job, Usage>, AllocError> {
+/// The words of a line, parted by single blanks: two blanks have an empty word between them.
+fn words_of(alloc: Global, line: &str) -> Result<Vec<String>, AllocError> {
     let mut words = Vec::new(alloc);
     for word in line.split(' ') {
         words.push(String::from_str(alloc, word)?)?;
     }
-    Ok(read_words(words.as_slice()))
+    Ok(words)
+}
+
+/// What a line asks for.
+fn asked(alloc: Global, line: &str) -> Result<Result<Job, Usage>, AllocError> {
+    Ok(read_words(words_of(alloc, line)?.as_slice()))
 }
 
 // The prover sees no rows: functions without clauses give them.
@@ -180,6 +185,34 @@ fn places(rt: HostRuntime) -> Result<(), Fail> {
         assert!(rt; is_asked(rt.alloc(), line, Err(Usage { place }))?, "{line}");
     }
     assert_eq!(rt; read_words(&[]), Err(Usage { place: 0 }));
-    assert!(rt; !free_words(&[]));
+    Ok(())
+}
+
+/// Whether a line asks for a free run.
+fn is_free(alloc: Global, line: &str) -> Result<bool, AllocError> {
+    Ok(free_words(words_of(alloc, line)?.as_slice()))
+}
+
+const RUNS: [(&'static str, bool); 9] = [
+    ("record a b", true),
+    ("record a b --harts 8 --dump c", true),
+    ("record a b --rounds", false),
+    ("record a", false),
+    ("replay a b", true),
+    ("replay a b --rounds", false),
+    ("replay a b --dump c --one", false),
+    ("inspect a", false),
+    ("sample 7", false),
+];
+
+fn run_rows() -> [(&'static str, bool); 9] {
+    RUNS
+}
+
+#[test]
+fn runs(rt: HostRuntime) -> Result<(), Fail> {
+    for (line, free) in run_rows() {
+        assert_eq!(rt; is_free(rt.alloc(), line)?, free, "{line}");
+    }
     Ok(())
 }
