@@ -1,5 +1,5 @@
 -- A recording that was kept keeps what the program promises.
-use Rattle.std.proofs.Common.{◌≡◌, ℕ, ◌+◌, ◌<◌, Bool, true, List, [], ◌∷◌, ◌++◌, length, slice_index, None}
+use Rattle.std.proofs.Common.{◌≡◌, ℕ, ◌+◌, ◌<◌, ◌≢◌, Bool, true, false, List, [], ◌∷◌, ◌++◌, length, slice_index, None}
 use Rattle.std.proofs.Common.{sym, ap, ◌∙◌, subst, Option}
 use Rattle.std.proofs.Common.{Some, IfSome, Ok, Err, inl, inr, ⊎_elim, refl, arith}
 use Rattle.std.specs.Prelude.{◌↔◌}
@@ -35,16 +35,17 @@ use Rattle.replay_law.proofs.Orders.{all_orders_agree, orders_tell_outcome}
 use Rattle.crew_recording.specs.Recording.{stream_in}
 use Rattle.crew_recording.proofs.Streams.{ended_at}
 use Rattle.room_laws.proofs.Judged.{order_sees_no_room}
-use Rattle.turn_model.specs.Board.{Terms}
-use Rattle.turn_model.specs.Lists.{RecordingEnd}
+use Rattle.turn_model.specs.Board.{Board, Terms}
+use Rattle.turn_model.specs.Lists.{RecordingEnd, comes_to}
 use Rattle.turn_laws.specs.EndLaws.{IsFull, IsAtConsole, greatest}
-use Rattle.crew_parts.specs.Boards.{World, spent, terms_of}
-use Rattle.recorded_turns.specs.Recordings.{RecordsInRounds, IsRightBy}
+use Rattle.crew_parts.specs.Boards.{Plain, World, the_machine, spent, terms_of}
+use Rattle.recorded_turns.specs.Recordings.{IsRightBy}
 use Rattle.recorded_turns.proofs.Recordings.{rounds_are_right, rounds_are_not_cut}
+use Rattle.free_run.proofs.Right.{freely_is_right, freely_is_not_cut}
 use Rattle.report_view.specs.Report.{report}
 use Rattle.revirt_tool.specs.Tasks.{Wish}
 use Rattle.revirt_tool.specs.Files.{IsFetched, IsUntouched}
-use Rattle.revirt_tool.specs.Recordings.{Answered, EndsBy, Comes, begun}
+use Rattle.revirt_tool.specs.Recordings.{Answered, EndsBy, Comes, KindOf, RecordsAsAsked, begun}
 use Rattle.revirt_tool.specs.Promise.{HasHead, HoldsNow, EndsFull, AllEndThere, KeepsRecording, replay_at_start, is_fault}
 use Rattle.revirt_tool.specs.Replays.{EndsAt, IsReportable}
 use Rattle.revirt_tool.specs.Serving.{KeepsAs, RecordsAs, FailsToKeep, ImageAs}
@@ -75,11 +76,34 @@ full_so terms log full =
     (subst (λ n. terms.log_limit < size_of_log (unit_of log) (log_without_room log).streams + size_in (unit_of log) n greatest)
     (length-map log.streams stream_without_room) full)
 
--- What a recording in rounds comes to.
+-- a recording of the kind that is asked for
+pub as_asked : (asked free : Bool) (start : Plain) (after : World) (log : Log) (ended : Final) (journal turns : List (ℕ × ℕ)) → asked ≡ free
+    → RecordsAsAsked free start after log ended journal turns → RecordsAsAsked asked start after log ended journal turns
+as_asked asked free start after log ended journal turns same is =
+    subst (λ (kind : Bool). RecordsAsAsked kind start after log ended journal turns) (sym same) is
+
+-- a recording of either kind is right, and never cut
+right_so : (free : Bool) (start : Plain) (after : World) (log : Log) (ended : Final) (journal turns : List (ℕ × ℕ))
+    (is : RecordsAsAsked free start after log ended journal turns) → IsRightBy start is.given log journal turns is.at
+right_so true start after log ended journal turns is = freely_is_right start after log ended journal turns is
+right_so false start after log ended journal turns is = rounds_are_right start after log ended journal turns is
+
+never_cut : (free : Bool) (start : Plain) (after : World) (log : Log) (ended : Final) (journal turns : List (ℕ × ℕ))
+    → RecordsAsAsked free start after log ended journal turns → log.cause ≢ causes.Cut
+never_cut true start after log ended journal turns is = freely_is_not_cut start after log ended journal turns is
+never_cut false start after log ended journal turns is = rounds_are_not_cut start after log ended journal turns is
+
+-- and is what a board comes to
+closed_so : (free : Bool) (turns : List (ℕ × ℕ)) (terms : Terms) (b : Board FlatState) (r : RecordingEnd FlatState) → KindOf free turns terms b r
+    → (last : Board FlatState) × (r ≡ comes_to the_machine terms last)
+closed_so true turns terms b r made = (made.last, sym made.comes)
+closed_so false turns terms b r made = (made.closed, made.recorded)
+
+-- What a recording that is asked for comes to.
 module _ (w : Wish) (image : Image) (o p : World) (log : Log) (ended : Final) (journal turns : List (ℕ × ℕ))
-    (is : RecordsInRounds (begun w image o) p log ended journal turns) where
+    (is : RecordsAsAsked w.free (begun w image o) p log ended journal turns) where
   abbrev right : IsRightBy (begun w image o) is.given log journal turns is.at
-  right = rounds_are_right (begun w image o) p log ended journal turns is
+  right = right_so w.free (begun w image o) p log ended journal turns is
 
   abbrev end : Replay FlatState
   end = right.right.end
@@ -145,7 +169,7 @@ module _ (w : Wish) (image : Image) (o p : World) (log : Log) (ended : Final) (j
         full = λ full. full_so (terms_of (begun w image o)) log (right.tells.full full);
         fault = λ fault. subst (λ n. IsAtConsole (terms_of (begun w image o)) n is.at) (length-map log.streams stream_without_room ∙ number)
             (right.tells.fault fault);
-        cut = rounds_are_not_cut (begun w image o) p log ended journal turns is;
+        cut = never_cut w.free (begun w image o) p log ended journal turns is;
       }
 
   pub comes : Comes w image o p log ended journal turns
@@ -173,10 +197,10 @@ module _ (w : Wish) (image : Image) (o p : World) (log : Log) (ended : Final) (j
   -- its log says what was asked for, and each stream ends at its hart's count
   head : image.pages ≡ w.pages → HasHead w image end.flat log
   head same =
-      let made = is.recorded spent (λ fault. (refl, refl)) in
-      let closed = made.closed in
-      let there : closed.at.flat ≡ end.flat = sym (ap (λ (r : RecordingEnd FlatState). r.ended) made.recorded) ∙ sym right.right.ended in
-      let streams = ap (λ (r : RecordingEnd FlatState). r.log.streams) made.recorded in
+      let made = closed_so w.free turns _ _ _ (is.recorded spent (λ fault. (refl, refl))) in
+      let closed = made.0 in
+      let there : closed.at.flat ≡ end.flat = sym (ap (λ (r : RecordingEnd FlatState). r.ended) made.1) ∙ sym right.right.ended in
+      let streams = ap (λ (r : RecordingEnd FlatState). r.log.streams) made.1 in
       let long : length closed.streams ≡ w.harts =
       sym (length-map (enumerate_from 0 closed.streams) _ ∙ length-enumerate_from 0 closed.streams) ∙ sym (ap length streams)
       ∙ length-map log.streams stream_without_room ∙ number in
@@ -194,7 +218,7 @@ module _ (w : Wish) (image : Image) (o p : World) (log : Log) (ended : Final) (j
 
 keeps : (w : Wish) (file : List ℕ) (log : Log) (ended : Final) (journal turns : List (ℕ × ℕ)) (text : List ℕ) (fault : Bool) (s t : SeenShelf) (o p : World)
     → IsFetched files.Image w.image s file → broken_rule w.pages file ≡ None
-    → RecordsInRounds (begun w (image_of w.pages file) o) p log ended journal turns
+    → RecordsAsAsked w.free (begun w (image_of w.pages file) o) p log ended journal turns
     → HoldsNow w (spelling log) (ended.memory ++ ended.sent) s t → length (spelling log) ≡ size_of_log (unit_of log) log.streams
     → reading (spelling log) ≡ Ok (log_without_room log) → text ≡ report ended → fault ≡ is_fault ended.cause
     → KeepsRecording w text fault s t o p
@@ -256,9 +280,9 @@ untouched s m t same tells kept = record {
 }
 
 -- a run that was recorded, and what keeping it came to
-pub records : (w : Wish) (s m t : SeenShelf) (o p : World) (image : Image) (log : Log) (ended : Final)
+records : (w : Wish) (s m t : SeenShelf) (o p : World) (image : Image) (log : Log) (ended : Final)
     (journal turns : List (ℕ × ℕ)) (ending : Ending)
-    → ImageAs w s m (Ok image) → ToldBefore m.tells t.tells → RecordsInRounds (begun w image o) p log ended journal turns
+    → ImageAs w s m (Ok image) → ToldBefore m.tells t.tells → RecordsAsAsked w.free (begun w image o) p log ended journal turns
     → KeepsAs w log ended m t ending → RecordsAs w s t o p ending
 records w s m t o p image log ended journal turns NoMemory read tells is kept =
     let file = read.1 in
@@ -279,7 +303,7 @@ records w s m t o p image log ended journal turns ShelfFault read tells is kept 
 records w s m t o p image log ended journal turns (Kept text fault) read tells is kept =
     let file = read.1 in
     keeps w file.0 log ended journal turns text.items fault s t o p file.1 file.2
-    (subst (λ i. RecordsInRounds (begun w i o) p log ended journal turns) file.3 is)
+    (subst (λ i. RecordsAsAsked w.free (begun w i o) p log ended journal turns) file.3 is)
     (holds_since w (spelling log) (ended.memory ++ ended.sent) s m t read.0 tells kept.0) kept.1 kept.2 kept.3 kept.4
 records w s m t o p image log ended journal turns (Usage place) read tells is kept = absurd kept
 records w s m t o p image log ended journal turns (TooLong file) read tells is kept = absurd kept
@@ -289,6 +313,14 @@ records w s m t o p image log ended journal turns (OtherImage named has) read te
 records w s m t o p image log ended journal turns (Disorderly rule hart entry) read tells is kept = absurd kept
 records w s m t o p image log ended journal turns (Diverged hart count rule) read tells is kept = absurd kept
 records w s m t o p image log ended journal turns (Listed listing judged) read tells is kept = absurd kept
+
+-- and where console and clock come back from that as they were
+pub records_so : (w : Wish) (s m t : SeenShelf) (o p q : World) (image : Image) (log : Log) (ended : Final)
+    (journal turns : List (ℕ × ℕ)) (ending : Ending)
+    → ImageAs w s m (Ok image) → ToldBefore m.tells t.tells → RecordsAsAsked w.free (begun w image o) p log ended journal turns
+    → KeepsAs w log ended m t ending → q ≡ p → RecordsAs w s t o q ending
+records_so w s m t o p q image log ended journal turns ending read tells is kept same =
+    subst (λ after. RecordsAs w s t o after ending) (sym same) (records w s m t o p image log ended journal turns ending read tells is kept)
 
 -- an image that isn't there for the run
 pub refuses : (w : Wish) (s t : SeenShelf) (o : World) (ending : Ending) → ImageAs w s t (Err ending) → RecordsAs w s t o o ending

@@ -21,7 +21,7 @@ use Rattle.replay_law.proofs.Orders.{good_first, good_along}
 use Rattle.replay_core.specs.Ends.{told_by, IsOutcomeOf}
 use Rattle.replay_core.specs.declared.outcome.Outcome.{Outcome as Told}
 use Rattle.replay_core.specs.declared.outcome.Outcome.TheVariants as told
-use Rattle.revirt_tool.specs.Replays.{EndsAt, DivergesAt, IsReportable}
+use Rattle.revirt_tool.specs.Replays.{EndsAt, DivergesAt, IsReportable, OutcomeAs, told_of}
 
 -- a least order is an order
 leads : {S E : Type 0} (step : ℕ → S → Option (S × E)) (harts : ℕ) (s t : S) (made : List (ℕ × E)) → IsLeast step harts s made t → Leads step s made t
@@ -116,3 +116,9 @@ diverges_at log image is hart count rule end outcome =
       state = t.0;
       diverged = subst (λ o. IsOutcome (board (unit_of log)) log (first_flat log image) o) t.1 outcome.1.0;
     }
+
+-- what is told of an outcome is what the replay comes to
+pub outcome_as : (log : Log) (image : Image) (is : IsReplayable log image) (outcome : Told) → IsOutcomeOf log image outcome
+    → OutcomeAs log image (told_of outcome)
+outcome_as log image is (told.Done end) of = ends_at log image is end of
+outcome_as log image is (told.Diverged hart count why end) of = diverges_at log image is hart count why end of

@@ -1,14 +1,15 @@
 -- What the words ask for.
-use Rattle.std.proofs.Common.{◌≡◌, ◌≢◌, ℕ, Bool, List, Option, Some, None, option_map, IfSome, inl, inr, refl, sym, ap, ◌∙◌}
+use Rattle.std.proofs.Common.{◌≡◌, ◌≢◌, ℕ, Bool, false, List, Option, Some, None, Result, Ok, Err, option_map, IfSome, inl, inr, refl, sym, ap, ◌∙◌}
 use Rattle.std.proofs.Common.{subst}
 use Rattle.std.proofs.lemmas.Option.{none-some, same_Some}
 use Rattle.command_words.specs.declared.job.Job.{Job}
-use Rattle.command_words.specs.declared.job.Job.TheVariants.{Record}
+use Rattle.command_words.specs.declared.job.Job.TheVariants.{Record, Replay, Inspect, Trace, Sample}
+use Rattle.command_words.specs.Grammar.{job_of, is_free, asks_free_run}
 use Rattle.command_words.specs.Texts.{word_at}
 use Rattle.command_words.specs.Allowed.{KeepsApart}
 use Rattle.outside.specs.Seen.{SeenShelf}
 use Rattle.crew_parts.specs.Boards.{World}
-use Rattle.revirt_tool.specs.Tasks.{Wish, ReplayWish, TraceWish, Records, Replays, Traces, Lists, Samples, task, IsFetchedBy, Fetches}
+use Rattle.revirt_tool.specs.Tasks.{Wish, ReplayWish, TraceWish, Task, Records, Replays, Traces, Lists, Samples, task, task_of, IsFetchedBy, Fetches}
 use Rattle.revirt_tool.specs.Listings.{InspectsAs}
 use Rattle.revirt_tool.specs.Replays.{ReplaysAs}
 use Rattle.revirt_tool.specs.Traces.{TracesAs}
@@ -21,6 +22,25 @@ use Rattle.revirt_tool.specs.declared.ending.Ending.TheVariants.{NoMemory, Shelf
 -- the words ask for a recording and have its image fetched
 pub fetches : (words : List (List ℕ)) (w : Wish) → task words ≡ Some (Records w) → Fetches words w.image
 fetches words w is = subst (λ a. IsFetchedBy a w.image) (sym is) refl
+
+-- whether the harts of a task run free, where it is a recording
+abbrev asked_free : Task → Option Bool
+asked_free (Records w) = Some w.free
+asked_free other = None
+
+free_by : (words : List (List ℕ)) (read : Result Job ℕ) (w : Wish)
+    → elim read [ Ok job ↦ Some (task_of words job) | Err place ↦ None ] ≡ Some (Records w)
+    → elim read [ Ok job ↦ is_free job | Err place ↦ false ] ≡ w.free
+free_by words (Ok (Record image log harts pages limit log_limit dump rounds)) w is = same_Some _ _ (ap asked_free (same_Some _ _ is))
+free_by words (Ok (Replay image log dump way)) w is = absurd (none-some w.free (ap asked_free (same_Some _ _ is)))
+free_by words (Ok (Inspect log)) w is = absurd (none-some w.free (ap asked_free (same_Some _ _ is)))
+free_by words (Ok (Trace image log hart from to)) w is = absurd (none-some w.free (ap asked_free (same_Some _ _ is)))
+free_by words (Ok (Sample number)) w is = absurd (none-some w.free (ap asked_free (same_Some _ _ is)))
+free_by words (Err place) w is = absurd (none-some (Records w) is)
+
+-- and its harts run free exactly where the words ask for a free run
+pub runs_free : (words : List (List ℕ)) (w : Wish) → task words ≡ Some (Records w) → asks_free_run words ≡ w.free
+runs_free words w is = free_by words (job_of words) w is
 
 -- a replay has both files fetched
 pub fetches_log : (words : List (List ℕ)) (w : ReplayWish) → task words ≡ Some (Replays w) → Fetches words w.log

@@ -187,11 +187,11 @@ KeptAreReplayed =
     → (there : HoldsReplay r u) × (there.holds.log ≡ keeps.log) × (image_held r u there ≡ image_of w.pages keeps.file)
     × (end_held r u there ≡ final_of keeps.end.flat keeps.log.cause) × (report (end_held r u there) ≡ text)
 
--- What is recorded depends on the words, the image, and what console and clock gave, and on nothing else: two runs of which these are the
--- same keep the same bytes, and print the same report.
+-- What is recorded depends on the words, the image, and what console and clock gave, and with free harts on the turns, and on nothing
+-- else: two runs of which these are the same keep the same bytes, and print the same report.
 abbrev pub SameAreKept : Type 0
 SameAreKept =
     (w : Wish) (text also : List ℕ) (fault faulty : Bool) (s t u v : SeenShelf) (o p q r : World)
     (one : KeepsRecording w text fault s t o p) (other : KeepsRecording w also faulty u v q r)
-    → one.file ≡ other.file → one.comes.run.given ≡ other.comes.run.given
+    → one.file ≡ other.file → one.comes.run.given ≡ other.comes.run.given → (w.free ≡ true → one.turns ≡ other.turns)
     → (spelling one.log ≡ spelling other.log) × (one.end.flat ≡ other.end.flat) × (text ≡ also)

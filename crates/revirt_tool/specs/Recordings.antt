@@ -1,5 +1,5 @@
 -- What a recording that the words ask for comes to (docs/recorder.md).
-use Rattle.std.specs.Prelude.{ℕ, ◌≡◌, ◌≢◌, ◌↔◌, ◌<◌, ◌≤◌, ◌++◌, true, List, map, filter_map, slice_index, None, IsSome, IsTrue}
+use Rattle.std.specs.Prelude.{ℕ, ◌≡◌, ◌≢◌, ◌↔◌, ◌<◌, ◌≤◌, ◌++◌, Bool, true, false, List, map, filter_map, slice_index, None, IsSome, IsTrue}
 use Rattle.rv_words.specs.declared.shared.Cause.TheVariants as causes
 use Rattle.outside.specs.Seen.{Takes}
 use Rattle.outside.specs.declared.console.Asked.{Asked}
@@ -12,9 +12,12 @@ use Rattle.log_entry.specs.Parts.{unit_of, time_of}
 use Rattle.log_entry.specs.Range.{in_range}
 use Rattle.log_entry.specs.Size.{size_of_log}
 use Rattle.replay_model.specs.Inputs.{console_input, by_ordinal, times_from}
+use Rattle.turn_model.specs.Board.{Board, Terms}
+use Rattle.turn_model.specs.Lists.{RecordingEnd}
 use Rattle.turn_laws.specs.EndLaws.{IsFull, IsAtConsole}
 use Rattle.crew_parts.specs.Boards.{Plain, World, plain_at_start, terms_of}
-use Rattle.recorded_turns.specs.Recordings.{RecordsInRounds}
+use Rattle.recorded_turns.specs.Recordings.{Records, InRounds}
+use Rattle.free_run.specs.Recordings.{Freely}
 use Rattle.revirt_tool.specs.Tasks.{Wish}
 
 -- where console and clock tell them, their answers in the call are the inputs and times of the log, and the bytes that the
@@ -43,10 +46,18 @@ pub record EndsBy (start : Plain) (log : Log) (s : FlatState) : Type 0 where
 abbrev pub begun : Wish → Image → World → Plain
 begun w image o = plain_at_start image w.harts w.limit w.log_limit o
 
--- the recording in rounds, with this log, journal and turns: what console and clock were asked for it, and why it ended; its log can be
+-- the kinds of recordings: with free harts, by the list of turns that is handed back; and in rounds
+abbrev pub KindOf : Bool → List (ℕ × ℕ) → Terms → Board FlatState → RecordingEnd FlatState → Type 0
+KindOf true turns = Freely turns
+KindOf false turns = InRounds
+
+abbrev pub RecordsAsAsked : Bool → Plain → World → Log → Final → List (ℕ × ℕ) → List (ℕ × ℕ) → Type 0
+RecordsAsAsked free start after log ended journal turns = Records (KindOf free turns) start after log ended journal turns
+
+-- the recording that is asked for, with this log, journal and turns: what console and clock were asked for it, and why it ended; its log can be
 -- written, within the log limit
 pub record Comes (w : Wish) (image : Image) (o p : World) (log : Log) (ended : Final) (journal turns : List (ℕ × ℕ)) : Type 0 where
-  pub run : RecordsInRounds (begun w image o) p log ended journal turns
+  pub run : RecordsAsAsked w.free (begun w image o) p log ended journal turns
   pub answered : Answered o p log ended.sent
   pub ends : EndsBy (begun w image o) log run.at
   pub range : in_range log ≡ true

@@ -16,6 +16,8 @@ use Rattle.replay_model.specs.Board.{board}
 use Rattle.replay_model.specs.Outcome.{IsOutcome}
 use Rattle.replay_model.specs.Outcome as outcomes
 use Rattle.replay_law.specs.Laws.{first_flat}
+use Rattle.replay_core.specs.declared.outcome.Outcome.{Outcome}
+use Rattle.replay_core.specs.declared.outcome.Outcome.TheVariants as told
 use Rattle.report_view.specs.Report.{report}
 use Rattle.revirt_tool.specs.Tasks.{ReplayWish}
 use Rattle.revirt_tool.specs.Files.{WasFetched, IsUntouched, FailsToFetch, IsTooLong, WasTooLong}
@@ -79,6 +81,11 @@ pub record DivergesAt (log : Log) (image : Image) (hart count rule : ℕ) : Type
   pub orderly : IsOrderly log
   pub state : FlatState
   pub diverged : IsOutcome (board (unit_of log)) log (first_flat log image) (outcomes.Diverged hart count rule state)
+
+-- where a replay ended that came to this
+abbrev pub told_of : Outcome → Result Final Ending
+told_of (told.Done end) = Ok end
+told_of (told.Diverged hart count why state) = Err (Diverged hart count why)
 
 -- what replaying a log comes to
 abbrev pub OutcomeAs : Log → Image → Result Final Ending → Type 0

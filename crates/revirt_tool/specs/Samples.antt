@@ -21,7 +21,7 @@ use Rattle.revirt_tool.specs.declared.ending.Ending.TheVariants.{NoMemory, Kept}
 
 -- the board of every sample; no file has a name
 abbrev pub sample_board : Wish
-sample_board = record { image = []; log = []; dump = None; harts = 4; pages = 8; limit = 1000000; log_limit = 67108864 }
+sample_board = record { image = []; log = []; dump = None; harts = 4; pages = 8; limit = 1000000; log_limit = 67108864; free = false }
 
 -- the guest of this number, for the harts of that board
 abbrev pub sample_image : ℕ → Image

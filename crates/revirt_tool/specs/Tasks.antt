@@ -1,5 +1,5 @@
 -- What the words ask for (docs/command-line.md).
-use Rattle.std.specs.Prelude.{ℕ, ◌≡◌, ◌≢◌, ◌≤◌, ◌⊎◌, List, Option, Some, None, option_map, IfSome, Ok, Err}
+use Rattle.std.specs.Prelude.{ℕ, ◌≡◌, ◌≢◌, ◌≤◌, ◌⊎◌, Bool, not, List, Option, Some, None, option_map, IfSome, Ok, Err}
 use Rattle.rv_words.specs.Limits.{most_pages, most_moves, longest_log}
 use Rattle.rv_words.specs.declared.shared.TheConstants.{MAX_HARTS}
 use Rattle.command_words.specs.Texts.{word_at}
@@ -12,7 +12,7 @@ use Rattle.revirt_tool.specs.declared.tracing.TraceRequest.{TraceRequest}
 use Rattle.revirt_tool.specs.declared.command.Command.{Command}
 use Rattle.revirt_tool.specs.declared.command.Command.TheVariants as commands
 
--- what the words of a recording ask for
+-- what the words of a recording ask for; harts run free, or in rounds
 pub record Wish : Type 0 where
   pub image : List ℕ
   pub log : List ℕ
@@ -21,6 +21,7 @@ pub record Wish : Type 0 where
   pub pages : ℕ
   pub limit : ℕ
   pub log_limit : ℕ
+  pub free : Bool
 
 -- a wish by its names
 abbrev pub wish_by : Request → Wish
@@ -32,6 +33,7 @@ wish_by r = record {
   pages = r.pages;
   limit = r.limit;
   log_limit = r.log_limit;
+  free = r.free;
 }
 
 -- what the words of a replay ask for
@@ -80,6 +82,7 @@ task_of words (Record image log harts pages limit log_limit dump rounds) =
       pages = pages;
       limit = limit;
       log_limit = log_limit;
+      free = not rounds;
     })
 task_of words (Replay image log dump way) = Replays (replayed words image log dump)
 task_of words (Trace image log hart from to) = Traces (traced (word_at words image) (word_at words log) hart from to)

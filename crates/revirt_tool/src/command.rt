@@ -102,7 +102,7 @@ fn by_name(words: &[String], job: Job) -> Command
             limit,
             log_limit,
             dump,
-            rounds: _,
+            rounds,
         } => Command::Record(Request {
             image: word(words, image),
             log: word(words, log),
@@ -111,6 +111,7 @@ fn by_name(words: &[String], job: Job) -> Command
             pages,
             limit,
             log_limit,
+            free: !rounds,
         }),
         Job::Replay {
             image,

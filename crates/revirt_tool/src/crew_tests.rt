@@ -9,7 +9,7 @@ use std::test::Fail;
 use std::thread::Threads;
 
 /// Each of two harts adds 1 to the word behind the first page 1,000 times, by AMOADD.W, and then runs in a circle.
-fn sum_guest() -> &'static [u32] {
+pub(crate) fn sum_guest() -> &'static [u32] {
     &[
         0x8000_10b7,
         0x3e80_0193,
@@ -42,7 +42,7 @@ fn crews() -> [Row; 4] {
     race.length = 271;
     race.entries = "p0:0.5.0 g0:0.0r g1:1.1r g3:1.3w y8 e8 p0:1.5.0 g0:0.1r g1:1.0r y3 g3:1.5w e8";
     let mut stop = plain_row(
-        "record g l --harts 4 --pages 1 --limit 100",
+        "record g l --harts 4 --pages 1 --limit 100 --rounds",
         smallest(),
         0,
         "cause stop 7\nhart 0 count 2 pc 80000008\nhart 1 count 3 pc 8000000c\nhart 2 count 2 pc 80000008\nhart 3 count 2 pc 80000008",
@@ -51,7 +51,7 @@ fn crews() -> [Row; 4] {
     stop.entries =
         "p0:0.5.0 g0:0.0r e2 p0:1.5.0 g0:0.1r t2:4.n e3 p0:2.5.0 g0:0.2r e2 p0:3.5.0 g0:0.3r e2";
     let mut fault = plain_row(
-        "record g l --harts 4 --pages 1 --limit 100",
+        "record g l --harts 4 --pages 1 --limit 100 --rounds",
         sends(),
         5,
         "cause fault\nhart 0 count 2 pc 80000008\nhart 1 count 3 pc 8000000c\nhart 2 count 3 pc 8000000c\nhart 3 count 2 pc 80000008",
@@ -115,14 +115,14 @@ fn leaves<T: Threads + Wait + Sync>(
     Ok(kept && has_lines(ran.report.written(), row.lines))
 }
 
-/// Atomic additions of two harts add up to 2,000; in rounds, racing ones come to 1,000.
+/// In rounds atomic additions of two harts add up to 2,000, and racing ones come to 1,000.
 #[test]
 fn additions_of_two_harts_come_to_their_sum(rt: HostRuntime) -> Result<(), Fail> {
-    let words = "record g l --harts 2 --pages 2 --limit 4000 --dump d";
+    let words = "record g l --harts 2 --pages 2 --limit 4000 --dump d --rounds";
     let mut atomic = plain_row(words, sum_guest(), 0, "cause limit");
     atomic.length = 212;
     assert!(rt; leaves(&rt, rt.alloc(), &atomic, &[0xd0, 0x07, 0, 0])?);
-    let words = "record g l --harts 2 --pages 2 --limit 6000 --dump d";
+    let words = "record g l --harts 2 --pages 2 --limit 6000 --dump d --rounds";
     let mut racing = plain_row(words, racing_sum_guest(), 0, "cause limit");
     racing.length = 441;
     assert!(rt; leaves(&rt, rt.alloc(), &racing, &[0xe8, 0x03, 0, 0])?);
@@ -130,31 +130,23 @@ fn additions_of_two_harts_come_to_their_sum(rt: HostRuntime) -> Result<(), Fail>
     Ok(())
 }
 
-/// Whether a run is recorded, and its log is the one that is held for the same run by other words.
-fn keep_the_same<T: Threads + Wait + Sync>(
+/// Whether a run is recorded, and a second time with the same log.
+fn keeps_the_same<T: Threads + Wait + Sync>(
     rt: &T,
     alloc: Global,
-    one: &Row,
-    other: &Row,
+    row: &Row,
 ) -> Result<bool, Fail> {
-    let file = bytes_of(alloc, one.guest)?;
-    let first = serve(rt, alloc, one, file.as_slice())?;
-    let second = serve(rt, alloc, other, file.as_slice())?;
+    let file = bytes_of(alloc, row.guest)?;
+    let first = serve(rt, alloc, row, file.as_slice())?;
+    let second = serve(rt, alloc, row, file.as_slice())?;
     Ok(first.shelf.held("l").is_some() && first.shelf.held("l") == second.shelf.held("l"))
 }
 
 #[test]
 fn one_run_recorded_twice_has_one_log(rt: HostRuntime) -> Result<(), Fail> {
-    let words = "record g l --harts 2 --pages 2 --limit 8";
-    let plain = plain_row(words, race_guest(), 0, "");
-    let rounds = plain_row(
-        "record g l --harts 2 --pages 2 --limit 8 --rounds",
-        race_guest(),
-        0,
-        "",
-    );
-    assert!(rt; keep_the_same(&rt, rt.alloc(), &rounds, &rounds)?);
-    assert!(rt; keep_the_same(&rt, rt.alloc(), &rounds, &plain)?);
+    let words = "record g l --harts 2 --pages 2 --limit 8 --rounds";
+    let rounds = plain_row(words, race_guest(), 0, "");
+    assert!(rt; keeps_the_same(&rt, rt.alloc(), &rounds)?);
     Ok(())
 }
 
@@ -162,7 +154,7 @@ fn one_run_recorded_twice_has_one_log(rt: HostRuntime) -> Result<(), Fail> {
 #[test]
 fn a_log_that_four_harts_fill_ends_their_run(rt: HostRuntime) -> Result<(), Fail> {
     let alloc = rt.alloc();
-    let words = "record g l --harts 4 --pages 1 --limit 1000000 --log-limit 1024";
+    let words = "record g l --harts 4 --pages 1 --limit 1000000 --log-limit 1024 --rounds";
     let row = plain_row(words, round(), 0, "");
     let file = bytes_of(alloc, round())?;
     let ran = serve(&rt, alloc, &row, file.as_slice())?;

@@ -6,7 +6,7 @@ ghost use Rattle.log_entry.specs.Range.{in_range};
 ghost use Rattle.outside.specs.Seen.{ToldBefore};
 ghost use Rattle.replay_core.specs.Ends.{IsOutcomeOf};
 ghost use Rattle.revirt_tool.specs.Tasks.{replay_by};
-ghost use Rattle.revirt_tool.specs.Replays.{StartAs, OrderAs, OutcomeAs, IsReportable, KeepsReplayAs, ReplaysAs};
+ghost use Rattle.revirt_tool.specs.Replays.{StartAs, OrderAs, OutcomeAs, IsReportable, KeepsReplayAs, ReplaysAs, told_of};
 
 use crate::ending::{Ended, Ending, File, without_run};
 use crate::fetching::{file_for, log_for};
@@ -14,6 +14,7 @@ use crate::recording::keep_dump;
 use command_words::Way;
 use elf_image::{Image, ImageError, read_image};
 use flat_machine::Final;
+use free_replay::replay_free;
 use log_entry::Log;
 use log_order::{OrderError, Orderly, put_in_order};
 use outside::{Clock, Console, Gate, NoMemory, Shelf};
@@ -21,6 +22,7 @@ use replay_core::{Outcome, replay_one};
 use report_view::report_text;
 use round_run::replay_rounds;
 use std::alloc::Global;
+use std::sync::Wait;
 use std::thread::Threads;
 
 /// What a replay is asked for: its files, and the way.
@@ -79,7 +81,7 @@ pub(crate) fn in_order(alloc: Global, log: Log) -> Result<Orderly, Ending>
     }
 }
 
-/// What a replay comes to, on one thread or in rounds.
+/// What a replay comes to, on one thread or in rounds, which serve a plain one too.
 fn played<T: Threads + Sync, G: Gate>(
     rt: &T,
     alloc: Global,
@@ -94,6 +96,25 @@ fn played<T: Threads + Sync, G: Gate>(
     match way {
         Way::One => replay_one(alloc, orderly, image),
         Way::Plain | Way::Rounds => replay_rounds(rt, alloc, orderly, image, gate),
+    }
+}
+
+/// Where a replay ended that came to this.
+fn told_of(outcome: Outcome) -> Result<Final, Ending>
+    ensures { result ≡ told_of outcome }
+{
+    match outcome {
+        Outcome::Done(end) => Ok(end),
+        Outcome::Diverged {
+            hart,
+            count,
+            why,
+            state: _,
+        } => Err(Ending::Diverged {
+            hart,
+            count,
+            rule: why,
+        }),
     }
 }
 
@@ -116,19 +137,30 @@ pub(crate) fn outcome_of<T: Threads + Sync, G: Gate>(
         Err(ending) => return Err(ending),
     };
     match played(rt, alloc, orderly, image, way, gate) {
-        Ok(Outcome::Done(end)) => Ok(end),
-        Ok(
-            Outcome::Diverged {
-                hart,
-                count,
-                why,
-                state: _,
-            },
-        ) => Err(Ending::Diverged {
-            hart,
-            count,
-            rule: why,
-        }),
+        Ok(outcome) => told_of(outcome),
+        Err(_) => Err(Ending::NoMemory),
+    }
+}
+
+/// Where the replay of a log ends, with free harts.
+fn free_outcome_of<T: Threads + Wait + Sync, G: Gate>(
+    rt: &T,
+    alloc: Global,
+    log: Log,
+    image: &Image,
+    gate: &G,
+) -> Result<Final, Ending>
+    requires range { IsTrue (in_range log) }
+    requires whole { IsWhole image.now }
+    requires pages { log.pages ≡ image.now.pages }
+    ensures { OutcomeAs log image.now result }
+{
+    let orderly = match in_order(alloc, log) {
+        Ok(orderly) => orderly,
+        Err(ending) => return Err(ending),
+    };
+    match replay_free(rt, alloc, orderly, image, gate) {
+        Ok(outcome) => told_of(outcome),
         Err(_) => Err(Ending::NoMemory),
     }
 }
@@ -201,4 +233,56 @@ pub(crate) fn replay<T: Threads + Sync, S: Shelf, C: Console, K: Clock, G: Gate>
     ensures clock { result.clock ≡ clock }
 {
     without_run(replayed(rt, alloc, request, shelf, gate), console, clock)
+}
+
+fn freely_replayed<T: Threads + Wait + Sync, S: Shelf, G: Gate>(
+    rt: &T,
+    alloc: Global,
+    request: &ReplayRequest,
+    shelf: &mut S,
+    gate: &G,
+) -> Ending
+    requires writing { (S.seen shelf.old).writing ≡ false }
+    requires log { S.has shelf.old request.now.log.now }
+    requires image { S.has shelf.old request.now.image.now }
+    ensures writing { (S.seen shelf.new).writing ≡ false }
+    ensures replays { ReplaysAs (replay_by request.now) (S.seen shelf.old) (S.seen shelf.new) result }
+{
+    let log = match log_for(alloc, request.log, shelf) {
+        Ok(log) => log,
+        Err(ending) => return ending,
+    };
+    let start = match start_for(alloc, request.image, &log, shelf) {
+        Ok(image) => image,
+        Err(ending) => return ending,
+    };
+    match free_outcome_of(rt, alloc, log, &start, gate) {
+        Ok(end) => keep_end(alloc, request, &end, shelf),
+        Err(refused) => refused,
+    }
+}
+
+/// Replays the log that is asked for, with free harts.
+pub(crate) fn replay_freely<T: Threads + Wait + Sync, S: Shelf, C: Console, K: Clock, G: Gate>(
+    rt: &T,
+    alloc: Global,
+    request: &ReplayRequest,
+    shelf: &mut S,
+    console: C,
+    clock: K,
+    gate: &G,
+) -> Ended<C, K>
+    requires writing { (S.seen shelf.old).writing ≡ false }
+    requires log { S.has shelf.old request.now.log.now }
+    requires image { S.has shelf.old request.now.image.now }
+    ensures writing { (S.seen shelf.new).writing ≡ false }
+    ensures replays { ReplaysAs (replay_by request.now) (S.seen shelf.old) (S.seen shelf.new) result.ending }
+    ensures console { result.console ≡ console }
+    ensures clock { result.clock ≡ clock }
+{
+    without_run(
+        freely_replayed(rt, alloc, request, shelf, gate),
+        console,
+        clock,
+    )
 }

@@ -220,9 +220,8 @@ fn failing_dump(fails: &'static [u64]) -> Row {
     row
 }
 
-/// Runs in which the shelf fails. Of its calls, 0 fetches, 1 to 4 keep the log, with its head as call 2 and all behind it
-/// as call 3, and 5 to 8 the dump: no bytes were sent, and they are appended all the same, as call 7, so that 8 is what
-/// finishes the dump.
+/// Runs in which the shelf fails. Of its calls, 0 fetches, 1 to 4 keep the log in two pieces, and 5 to 8 the dump: no
+/// bytes were sent, and they are appended all the same, as call 7, so that 8 is what finishes the dump.
 fn failing_shelves() -> [Row; 10] {
     [
         failing_call(&[0]),

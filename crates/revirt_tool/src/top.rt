@@ -1,9 +1,10 @@
 //! The top call: what the words ask for, over the objects that are handed in.
 
-ghost use Rattle.std.specs.Prelude.{◌≡◌, ℕ, List, false};
+ghost use Rattle.std.specs.Prelude.{◌≡◌, ℕ, List, true, false};
 ghost use Rattle.command_words.specs.Texts.{texts};
 ghost use Rattle.command_words.specs.Grammar.{asks_free_run};
 ghost use Rattle.revirt_tool.specs.Tasks.{Fetches, AsksNoRun};
+ghost use Rattle.revirt_tool.specs.Closing.{Closes};
 ghost use Rattle.revirt_tool.specs.Serving.{EndsAs, around, Serves};
 ghost use Rattle.crew_parts.specs.Boards.{world};
 ghost use Rattle.revirt_tool.specs.Complete.{RecordingsAreDone, SameAreKept, ListingsAreDone, KeptAreLogs, ReplaysAreDone, KeptAreReplayed, TracesAreDone, SamplesAreDone};
@@ -11,11 +12,11 @@ ghost use Rattle.revirt_tool.specs.Complete.{RecordingsAreDone, SameAreKept, Lis
 use crate::command::{Command, command_of};
 use crate::ending::{Ended, Ending, close, without_run};
 use crate::inspecting::inspect;
-use crate::recording::record;
-use crate::replaying::replay;
+use crate::recording::{record, record_freely};
+use crate::replaying::{replay, replay_freely};
 use crate::sampling::sample;
 use crate::tracing::trace;
-use command_words::Usage;
+use command_words::{Usage, free_words};
 use outside::{Clock, Console, Gate, Shelf, Sink};
 use std::alloc::Global;
 use std::sync::Wait;
@@ -29,7 +30,7 @@ pub struct Finish<C: Console, K: Clock> {
     pub clock: K,
 }
 
-/// Does what the words ask for.
+/// Does what the words ask for, which is no free run.
 fn serve<T: Threads + Sync, S: Shelf, C: Console, K: Clock, G: Gate>(
     rt: &T,
     alloc: Global,
@@ -39,6 +40,7 @@ fn serve<T: Threads + Sync, S: Shelf, C: Console, K: Clock, G: Gate>(
     clock: K,
     gate: &G,
 ) -> Ended<C, K>
+    requires still { asks_free_run (texts words.now) ≡ false }
     requires writing { (S.seen shelf.old).writing ≡ false }
     requires has { (name : List ℕ) → Fetches (texts words.now) name → S.has shelf.old name }
     ensures writing { (S.seen shelf.new).writing ≡ false }
@@ -54,6 +56,58 @@ fn serve<T: Threads + Sync, S: Shelf, C: Console, K: Clock, G: Gate>(
         Ok(Command::Trace(request)) => trace(alloc, &request, shelf, console, clock),
         Ok(Command::Inspect(log)) => inspect(alloc, log, shelf, console, clock),
         Ok(Command::Sample(number)) => sample(rt, alloc, number, console, clock, gate),
+    }
+}
+
+/// Does what the words ask for, which is a free run.
+fn serve_freely<T: Threads + Wait + Sync, S: Shelf, C: Console, K: Clock, G: Gate>(
+    rt: &T,
+    alloc: Global,
+    words: &[String],
+    shelf: &mut S,
+    console: C,
+    clock: K,
+    gate: &G,
+) -> Ended<C, K>
+    requires free { asks_free_run (texts words.now) ≡ true }
+    requires writing { (S.seen shelf.old).writing ≡ false }
+    requires has { (name : List ℕ) → Fetches (texts words.now) name → S.has shelf.old name }
+    ensures writing { (S.seen shelf.new).writing ≡ false }
+    ensures ends { EndsAs (texts words.now) (S.seen shelf.old) (S.seen shelf.new)
+        (world (C.seen console) (K.seen clock)) (world (C.seen result.console) (K.seen result.clock))
+        result.ending }
+    ensures as_handed_in { AsksNoRun (texts words.now) → (result.console ≡ console) × (result.clock ≡ clock) }
+{
+    match command_of(words) {
+        Ok(Command::Record(request)) => {
+            record_freely(rt, alloc, &request, shelf, console, clock, gate)
+        }
+        Ok(Command::Replay(request)) => {
+            replay_freely(rt, alloc, &request, shelf, console, clock, gate)
+        }
+        _ => unreachable!(),
+    }
+}
+
+/// Prints what a command came to.
+fn print_ending<C: Console, K: Clock, R: Sink>(
+    alloc: Global,
+    ended: Ended<C, K>,
+    report: &mut R,
+) -> Finish<C, K>
+    ensures closes { Closes ended.ending (R.seen report.old) (R.seen report.new) result.status }
+    ensures console { result.console ≡ ended.console }
+    ensures clock { result.clock ≡ ended.clock }
+{
+    let Ended {
+        ending,
+        console,
+        clock,
+    } = ended;
+    Finish {
+        status: close(alloc, ending, report),
+        console,
+        clock,
     }
 }
 
@@ -78,19 +132,11 @@ pub fn revirt_still<T: Threads + Sync, S: Shelf, C: Console, K: Clock, G: Gate, 
         result.status }
     ensures as_handed_in { AsksNoRun (texts words.now) → (result.console ≡ console) × (result.clock ≡ clock) }
 {
-    let Ended {
-        ending,
-        console,
-        clock,
-    } = serve(rt, alloc, words, shelf, console, clock, gate);
-    Finish {
-        status: close(alloc, ending, report),
-        console,
-        clock,
-    }
+    let ended = serve(rt, alloc, words, shelf, console, clock, gate);
+    print_ending(alloc, ended, report)
 }
 
-/// Serves what the words ask for.
+/// Serves what the words ask for. A free run may wait for ever; all else is served as by `revirt_still`.
 pub fn revirt<T: Threads + Wait + Sync, S: Shelf, C: Console, K: Clock, G: Gate, R: Sink>(
     rt: &T,
     alloc: Global,
@@ -110,7 +156,11 @@ pub fn revirt<T: Threads + Wait + Sync, S: Shelf, C: Console, K: Clock, G: Gate,
         result.status }
     ensures as_handed_in { AsksNoRun (texts words.now) → (result.console ≡ console) × (result.clock ≡ clock) }
 {
-    revirt_still(rt, alloc, words, shelf, console, clock, gate, report)
+    if !free_words(words) {
+        return revirt_still(rt, alloc, words, shelf, console, clock, gate, report);
+    }
+    let ended = serve_freely(rt, alloc, words, shelf, console, clock, gate);
+    print_ending(alloc, ended, report)
 }
 
 /// A recording of an image that is told and accepted, in which nothing fails, is done, or memory ran out.

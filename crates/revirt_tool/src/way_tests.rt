@@ -1,7 +1,11 @@
-//! Replays by the top call, in each way.
+//! Recordings and replays by the top call, freely and in rounds.
 
+use crate::crew_tests::sum_guest;
 use crate::listing_tests::race_log;
-use crate::tests::{Told, bytes_of, race_guest, surroundings_with, tell};
+use crate::replay_tests::is_replayed;
+use crate::tests::{
+    Told, bytes_of, has_word, plain_row, race_guest, serve, surroundings_with, tell,
+};
 use outside::{Gate, HoldGate};
 use std::alloc::Global;
 use std::sync::Wait;
@@ -28,24 +32,36 @@ fn standing() -> [u32; 1] {
     [0x0000_006F]
 }
 
-fn replays_on_threads() -> [&'static str; 2] {
-    ["replay g l", "replay g l --rounds"]
+/// A recording and its replay, each on threads, and the leg that every hart begins before one ends it: in a free run leg 0
+/// has no moves.
+fn runs_on_threads() -> [(&'static str, &'static str, u64); 2] {
+    [
+        (
+            "record g l --harts 2 --pages 1 --limit 4096 --rounds",
+            "replay g l --rounds",
+            0,
+        ),
+        (
+            "record g l --harts 2 --pages 1 --limit 4096",
+            "replay g l",
+            1,
+        ),
+    ]
 }
 
 #[test]
 fn harts_move_beside_each_other(rt: HostRuntime) -> Result<(), Fail> {
     let alloc = rt.alloc();
-    let gate = HoldGate::start(0);
-    let line = "record g l --harts 2 --pages 1 --limit 4096";
-    let recorded = tell_with(&rt, alloc, line, &standing(), None, &gate)?;
-    assert_eq!(rt; recorded.status, 0);
-    assert!(rt; !gate.ran_out());
-    let Some(log) = recorded.shelf.held("l") else {
-        panic!(rt; "a log");
-    };
-    for line in replays_on_threads() {
-        let gate = HoldGate::start(0);
-        let told = tell_with(&rt, alloc, line, &standing(), Some(log), &gate)?;
+    for (record, replay, leg) in runs_on_threads() {
+        let gate = HoldGate::start(leg);
+        let recorded = tell_with(&rt, alloc, record, &standing(), None, &gate)?;
+        assert_eq!(rt; recorded.status, 0);
+        assert!(rt; !gate.ran_out());
+        let Some(log) = recorded.shelf.held("l") else {
+            panic!(rt; "a log");
+        };
+        let gate = HoldGate::start(leg);
+        let told = tell_with(&rt, alloc, replay, &standing(), Some(log), &gate)?;
         assert_eq!(rt; told.status, 0);
         assert!(rt; !gate.ran_out());
     }
@@ -89,7 +105,7 @@ fn legs_of_ways() -> [(&'static str, u64); 3] {
 }
 
 #[test]
-fn only_replays_in_rounds_pass_the_gate(rt: HostRuntime) -> Result<(), Fail> {
+fn only_replays_on_threads_pass_the_gate(rt: HostRuntime) -> Result<(), Fail> {
     let alloc = rt.alloc();
     for (line, passes) in legs_of_ways() {
         let gate = CountGate::start();
@@ -97,5 +113,32 @@ fn only_replays_in_rounds_pass_the_gate(rt: HostRuntime) -> Result<(), Fail> {
         assert_eq!(rt; told.status, 0);
         assert_eq!(rt; gate.passes(), passes);
     }
+    Ok(())
+}
+
+/// Eight harts that race for one word, each with a load, an addition and a store.
+fn race_of_eight() -> &'static str {
+    "record g l --harts 8 --pages 2 --limit 8 --dump d"
+}
+
+#[test]
+fn free_races_are_replayed_in_each_way(rt: HostRuntime) -> Result<(), Fail> {
+    let row = plain_row(race_of_eight(), race_guest(), 0, "");
+    for _ in 0..20 {
+        assert!(rt; is_replayed(&rt, rt.alloc(), &row)?);
+    }
+    Ok(())
+}
+
+/// Atomic additions of two free harts add up to 2,000.
+#[test]
+fn free_harts_add_up(rt: HostRuntime) -> Result<(), Fail> {
+    let alloc = rt.alloc();
+    let words = "record g l --harts 2 --pages 2 --limit 4000 --dump d";
+    let row = plain_row(words, sum_guest(), 0, "");
+    let file = bytes_of(alloc, row.guest)?;
+    let ran = serve(&rt, alloc, &row, file.as_slice())?;
+    assert!(rt; has_word(ran.shelf.held("d"), &[0xd0, 0x07, 0, 0]));
+    assert!(rt; is_replayed(&rt, alloc, &row)?);
     Ok(())
 }

@@ -1,8 +1,8 @@
 use Rattle.command_words.specs.Texts.{texts}
-use Rattle.std.proofs.Common.{Some, ap, ap₂, subst, ◌∙◌}
+use Rattle.std.proofs.Common.{Some, sym, ap, ap₂, subst, ◌∙◌}
 use Rattle.crew_parts.specs.Boards.{world}
 use Rattle.revirt_tool.specs.Tasks.{wish_by, replay_by, trace_by, task_by, IsAllowed}
-use Rattle.revirt_tool.proofs.Wishes.{fetches, fetches_log, fetches_image, ends_as, replays_as, traces_as, lists_as, samples_as}
+use Rattle.revirt_tool.proofs.Wishes.{fetches, runs_free, fetches_log, fetches_image, ends_as, replays_as, traces_as, lists_as, samples_as}
 use Rattle.revirt_tool.proofs.top.serve.Goals as goal
 
 pub record-requires-clause-has : goal.record-requires-clause-has
@@ -10,29 +10,13 @@ record-requires-clause-has g c = λ _ _.
     let x = c.in-Ok-Record in
     c.requires.has _ (fetches (texts c.args.words.now) (wish_by x.request) (x.ensures.task ∙ ap (λ a. Some (task_by a)) x.field-0-is))
 
-pub record-requires-clause-least_harts : goal.record-requires-clause-least_harts
-record-requires-clause-least_harts g c = λ _ _. let x = c.in-Ok-Record in (subst IsAllowed x.field-0-is x.ensures.allowed).least_harts
+pub record-requires-clause-allowed : goal.record-requires-clause-allowed
+record-requires-clause-allowed g c = λ _ _. let x = c.in-Ok-Record in subst IsAllowed x.field-0-is x.ensures.allowed
 
-pub record-requires-clause-most_harts : goal.record-requires-clause-most_harts
-record-requires-clause-most_harts g c = λ _ _. let x = c.in-Ok-Record in (subst IsAllowed x.field-0-is x.ensures.allowed).most_harts
-
-pub record-requires-clause-least : goal.record-requires-clause-least
-record-requires-clause-least g c = λ _ _. let x = c.in-Ok-Record in (subst IsAllowed x.field-0-is x.ensures.allowed).least_pages
-
-pub record-requires-clause-most : goal.record-requires-clause-most
-record-requires-clause-most g c = λ _ _. let x = c.in-Ok-Record in (subst IsAllowed x.field-0-is x.ensures.allowed).most_pages
-
-pub record-requires-clause-limit : goal.record-requires-clause-limit
-record-requires-clause-limit g c = λ _ _. let x = c.in-Ok-Record in (subst IsAllowed x.field-0-is x.ensures.allowed).limit
-
-pub record-requires-clause-shortest : goal.record-requires-clause-shortest
-record-requires-clause-shortest g c = λ _ _. let x = c.in-Ok-Record in (subst IsAllowed x.field-0-is x.ensures.allowed).shortest
-
-pub record-requires-clause-longest : goal.record-requires-clause-longest
-record-requires-clause-longest g c = λ _ _. let x = c.in-Ok-Record in (subst IsAllowed x.field-0-is x.ensures.allowed).longest
-
-pub record-requires-clause-names : goal.record-requires-clause-names
-record-requires-clause-names g c = λ _ _. let x = c.in-Ok-Record in (subst IsAllowed x.field-0-is x.ensures.allowed).names
+pub record-requires-clause-rounds : goal.record-requires-clause-rounds
+record-requires-clause-rounds g c = λ _ _.
+    let x = c.in-Ok-Record in
+    sym (runs_free (texts c.args.words.now) (wish_by x.request) (x.ensures.task ∙ ap (λ a. Some (task_by a)) x.field-0-is)) ∙ c.requires.still
 
 pub returns-in-Ok-Record-clause-ends : goal.returns-in-Ok-Record-clause-ends
 returns-in-Ok-Record-clause-ends g c =
