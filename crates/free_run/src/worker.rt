@@ -13,6 +13,7 @@ use outside::{Clock, Console, Gate};
 use shared_types::NoMemory;
 use std::alloc::Global;
 use std::sync::Wait;
+use std::thread::yield_now;
 use turn_table::{Pass, TurnTable};
 
 /// A hart's run, and what its worker knows of it between its turns.
@@ -42,6 +43,19 @@ fn is_last(order: Order, over: bool) -> bool {
     over && matches!(order, Order::Rest)
 }
 
+/// How often a worker whose hart can't move lets other threads go first, before it comes to the board again.
+const PAUSES: u32 = 32;
+
+/// Lets other threads go first, where a hart was told to stay where it is.
+fn pause(order: Order) {
+    if matches!(order, Order::Go { .. }) {
+        return;
+    }
+    for _ in 0..PAUSES {
+        yield_now();
+    }
+}
+
 /// One leg and one turn. True where there is no more to do.
 pub(crate) fn step<R: Wait, C: Console, K: Clock, G: Gate>(
     wait: &R,
@@ -69,6 +83,7 @@ pub(crate) fn step<R: Wait, C: Console, K: Clock, G: Gate>(
         job.legs,
     ) {
         Ok(Led { order, over }) => {
+            pause(order);
             job.until = until_of(order, job.run.count());
             job.legs = job.legs.saturating_add(1);
             is_last(order, over)
