@@ -5,6 +5,7 @@ ghost use Rattle.free_replay.specs.Parts.{MayMoveTo};
 ghost use Rattle.free_replay.specs.ReplayLegs.{HasLed, IsReady};
 
 use crate::board::ReplayTurns;
+use free_run::take_board;
 use hart_run::HartRun;
 use outside::Gate;
 use replay_core::Pace;
@@ -42,7 +43,7 @@ pub(crate) fn leg_and_turn<R: Wait, G: Gate>(
     gate.pass(hart, leg, false);
     let _ = run.advance(until);
     gate.pass(hart, leg, true);
-    let mut board = table.take(wait, pass);
+    let mut board = take_board(wait, table, pass);
     let _ = board.over();
     let (pace, changed) = board.turn(run);
     let over = board.over();

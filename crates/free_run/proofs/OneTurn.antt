@@ -162,6 +162,7 @@ module _ (P M N : Pass Plain Part) (b q : Plain) where
   no_turn same held e inside at part row = record {
     taken = b;
     turns = subst (λ z. turns_of N ≡ turns_of P ++ (b, z) ∷ []) e (one_more P M N b q same held row);
+    was = sym at ∙ each_here (part_of b) b.harts (hart_of P) inside;
     part =
         part_given P M N b q same part (subst (λ k. hart_of P < k) (sym (ap (λ (z : Plain). z.harts) e)) inside)
         ∙ ap Some (abandoned_parts b q e (hart_of P)) ∙ sym (each_here (part_of b) b.harts (hart_of P) inside) ∙ at;

@@ -34,8 +34,9 @@ pub record HasTurnOnce (old new : Pass Plain Part) (before after : Run) (until :
   pub moves : had.moves ≡ leg.leg.moves
   pub over_is : over ≡ is_over_in given
 
--- The pass took one board and gave it back abandoned, without a turn. The part on record is the same.
+-- The pass took one board and gave it back abandoned, without a turn. The part on record was the hart's part of that board, and is the same.
 pub record HasNoTurn (old new : Pass Plain Part) : Type 0 where
   pub taken : Plain
   pub turns : turns_of new ≡ turns_of old ++ (taken, abandoned_in taken) ∷ []
+  pub was : passes.part_of old ≡ Some (part_of taken (hart_of old))
   pub part : passes.part_of new ≡ passes.part_of old

@@ -9,6 +9,7 @@ ghost use Rattle.free_run.specs.Parts.{IsOnRecord, MayMoveTo};
 ghost use Rattle.free_run.specs.RecordLegs.{HasGoneTo, HasTurnOnce, HasNoTurn};
 
 use crate::board::RecordBoard;
+use crate::taking::take_board;
 use crew_core::Order;
 use hart_run::HartRun;
 use outside::{Clock, Console, Gate};
@@ -61,7 +62,7 @@ pub fn record_leg<R: Wait, C: Console, K: Clock, G: Gate>(
     gate.pass(hart, leg, false);
     let _ = run.advance(until);
     gate.pass(hart, leg, true);
-    let mut board = table.take(wait, pass);
+    let mut board = take_board(wait, table, pass);
     let _ = board.over();
     match board.turn(alloc, run) {
         Ok(order) => {

@@ -7,6 +7,7 @@ mod laws;
 mod legs;
 mod pairs;
 mod rest;
+mod taking;
 #[cfg(test)]
 mod tests;
 mod worker;
@@ -16,3 +17,4 @@ pub use board::{RecordBoard, RecordPart};
 pub use free::record_free;
 pub use laws::recordings_are_right;
 pub use legs::{Led, record_leg};
+pub use taking::take_board;

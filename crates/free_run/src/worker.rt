@@ -47,7 +47,7 @@ fn is_last(order: Order, over: bool) -> bool {
 const PAUSES: u32 = 32;
 
 /// Lets other threads go first, where a hart was told to stay where it is.
-fn pause(order: Order) {
+fn stand_back(order: Order) {
     if matches!(order, Order::Go { .. }) {
         return;
     }
@@ -56,7 +56,7 @@ fn pause(order: Order) {
     }
 }
 
-/// One leg and one turn. True where there is no more to do.
+/// One leg and one turn. True where there is no more to do, or memory was refused.
 pub(crate) fn step<R: Wait, C: Console, K: Clock, G: Gate>(
     wait: &R,
     alloc: Global,
@@ -83,7 +83,7 @@ pub(crate) fn step<R: Wait, C: Console, K: Clock, G: Gate>(
         job.legs,
     ) {
         Ok(Led { order, over }) => {
-            pause(order);
+            stand_back(order);
             job.until = until_of(order, job.run.count());
             job.legs = job.legs.saturating_add(1);
             is_last(order, over)
