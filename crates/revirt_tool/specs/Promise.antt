@@ -65,10 +65,10 @@ AllEndThere log image harts order end full =
     × ((h : ℕ) → story (board (unit_of log)) log h one.0 ≡ story (board (unit_of log)) log h full.0)
 
 -- A run was recorded of the image, and its log is kept. It is the recording of the image that is asked for, in rounds or with free harts
--- by its list of turns, with these options and with what console and clock gave in the call: where they tell it, these very answers, which are the log's inputs and times, and the bytes
--- that the console took are those sent. The log is orderly, and is read again from what is kept. The order of its journal obeys it, is
--- full and lean, and every full order that obeys it drives the flat machine from the image's start to the state that is reported, with
--- the same story of each hart; a replay of the log is done there.
+-- by its list of turns, with these options and with what console and clock gave in the call: where they tell it, these very answers,
+-- which are the log's inputs and times, and the bytes that the console took are those sent. The log is orderly, and is read again from
+-- what is kept. The order of its journal obeys it, is full and lean, and every full order that obeys it drives the flat machine from the
+-- image's start to the state that is reported, with the same story of each hart; a replay of the log is done there.
 pub record KeepsRecording (w : Wish) (text : List ℕ) (fault : Bool) (s t : SeenShelf) (o p : World) : Type 0 where
   pub file : List ℕ
   pub fetched : IsFetched files.Image w.image s file

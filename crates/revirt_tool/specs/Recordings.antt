@@ -46,7 +46,7 @@ pub record EndsBy (start : Plain) (log : Log) (s : FlatState) : Type 0 where
 abbrev pub begun : Wish → Image → World → Plain
 begun w image o = plain_at_start image w.harts w.limit w.log_limit o
 
--- the kinds of recordings: with free harts, by the list of turns that is handed back; and in rounds
+-- the kinds of recordings: with free harts, by their list of turns; and in rounds
 abbrev pub KindOf : Bool → List (ℕ × ℕ) → Terms → Board FlatState → RecordingEnd FlatState → Type 0
 KindOf true turns = Freely turns
 KindOf false turns = InRounds

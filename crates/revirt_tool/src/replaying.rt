@@ -81,7 +81,7 @@ pub(crate) fn in_order(alloc: Global, log: Log) -> Result<Orderly, Ending>
     }
 }
 
-/// What a replay comes to, on one thread or in rounds, which serve a plain one too.
+/// What a replay comes to that isn't free.
 fn played<T: Threads + Sync, G: Gate>(
     rt: &T,
     alloc: Global,
@@ -252,11 +252,11 @@ fn freely_replayed<T: Threads + Wait + Sync, S: Shelf, G: Gate>(
         Ok(log) => log,
         Err(ending) => return ending,
     };
-    let start = match start_for(alloc, request.image, &log, shelf) {
+    let started = match start_for(alloc, request.image, &log, shelf) {
         Ok(image) => image,
         Err(ending) => return ending,
     };
-    match free_outcome_of(rt, alloc, log, &start, gate) {
+    match free_outcome_of(rt, alloc, log, &started, gate) {
         Ok(end) => keep_end(alloc, request, &end, shelf),
         Err(refused) => refused,
     }

@@ -32,6 +32,38 @@ fn standing() -> [u32; 1] {
     [0x0000_006F]
 }
 
+/// A gate at which harts wait for each other before their legs of one number, and that counts the passes behind these.
+#[derive(Drop)]
+struct MeetGate {
+    hold: HoldGate,
+    leg: u64,
+    legs: AtomicU64,
+}
+
+impl MeetGate {
+    fn start(leg: u64) -> MeetGate {
+        MeetGate {
+            hold: HoldGate::start(leg),
+            leg,
+            legs: AtomicU64::new(0),
+        }
+    }
+
+    /// Whether two harts made such a leg, both at once.
+    fn has_met(&self) -> bool {
+        self.legs.load(Ordering::SeqCst) == 2 && !self.hold.ran_out()
+    }
+}
+
+impl Gate for MeetGate {
+    fn pass(&self, hart: u8, leg: u64, after: bool) {
+        self.hold.pass(hart, leg, after);
+        if after && leg == self.leg {
+            let _ = self.legs.fetch_add(1, Ordering::SeqCst);
+        }
+    }
+}
+
 /// A recording and its replay, each on threads, and the leg that every hart begins before one ends it: in a free run leg 0
 /// has no moves.
 fn runs_on_threads() -> [(&'static str, &'static str, u64); 2] {
@@ -53,17 +85,17 @@ fn runs_on_threads() -> [(&'static str, &'static str, u64); 2] {
 fn harts_move_beside_each_other(rt: HostRuntime) -> Result<(), Fail> {
     let alloc = rt.alloc();
     for (record, replay, leg) in runs_on_threads() {
-        let gate = HoldGate::start(leg);
+        let gate = MeetGate::start(leg);
         let recorded = tell_with(&rt, alloc, record, &standing(), None, &gate)?;
         assert_eq!(rt; recorded.status, 0);
-        assert!(rt; !gate.ran_out());
+        assert!(rt; gate.has_met());
         let Some(log) = recorded.shelf.held("l") else {
             panic!(rt; "a log");
         };
-        let gate = HoldGate::start(leg);
+        let gate = MeetGate::start(leg);
         let told = tell_with(&rt, alloc, replay, &standing(), Some(log), &gate)?;
         assert_eq!(rt; told.status, 0);
-        assert!(rt; !gate.ran_out());
+        assert!(rt; gate.has_met());
     }
     Ok(())
 }
