@@ -46,4 +46,4 @@ def run_yardstick(yardstick, image, pages, limit, console_input=b""):
 
 
 def run_recorder(program, image, log, pages, limit):
-    return run([program, "record", image, log, "--pages", pages, "--limit", limit])
+    return run([program, "record", image, log, "--pages", pages, "--limit", limit, "--rounds"])
