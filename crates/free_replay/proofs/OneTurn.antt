@@ -25,7 +25,8 @@ use Rattle.replay_parts.proofs.Within.{states_are}
 use Rattle.replay_core.specs.declared.went.Pace.{Pace}
 use Rattle.replay_core.specs.Turns.{HasTurn, IsPartMoved, told}
 use Rattle.free_replay.specs.Parts.{IsOnRecord, IsRunOf, MayMoveTo, parts_of}
-use Rattle.free_replay.specs.ReplayLegs.{HasLed, HasTurnOnce, IsReady}
+use Rattle.replay_core.specs.Items.{IsStuck}
+use Rattle.free_replay.specs.ReplayLegs.{GaveStuck, HasLed, HasTurnOnce, IsReady}
 use Rattle.free_replay.proofs.Parts.{changes_only, part_here, part_on_record, part_there, run_of_part}
 
 -- a leg on frames of another unit, of which there is none
@@ -190,3 +191,8 @@ has_led table P M N b q r led after until pause pace taken had kept same held at
       turn = turned_once P M N b q r led after until pause (told pace) taken had kept same held at part row;
       go = λ to goes. may_go P M N b q r led after until pause (told pace) taken had to same part (ap told goes);
     }
+
+-- from the board that was given no hart can go on
+pub gave_stuck : (P M N : Pass Plain Part) (b q : Plain) → IsSame P M → HoldsBoard parts_of b M
+    → turns_of N ≡ turns_of M ++ map (λ a. (a, q)) (taken_of M) → IsStuck q.log (state_of q) → GaveStuck P N
+gave_stuck P M N b q same held row stuck = record { taken = b; given = q; turns = one_more P M N b q same held row; stuck = stuck }

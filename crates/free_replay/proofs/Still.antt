@@ -30,6 +30,10 @@ not_true : (b : Bool) → not b ≡ true → b ≡ false
 not_true true e = absurd (true≢false (sym e))
 not_true false e = refl
 
+pub not_false : (b : Bool) → not b ≡ false → b ≡ true
+not_false true e = refl
+not_false false e = absurd (true≢false e)
+
 can_go_goes : (until : ℕ) (v : Verdict) (pace : Pace) → told pace ≡ told_of until v → goes_by pace ≡ false → v ≢ CanGo
 can_go_goes until v (paces.Go to) is no_go can = true≢false no_go
 can_go_goes until v paces.Hold is no_go can = let e = is ∙ ap (told_of until) can in let bad : ⊥ = cc in bad
@@ -171,16 +175,20 @@ module _ (p q : Plain) (r after : Run) (h : ℕ) (pace : Pace) (s : Replay FlatS
   pub inside_behind : h < length q.log.streams
   inside_behind = let e = ap (λ (z : Plain). length z.log.streams) turn.committed_is in let l = inside in omega (arith, l, e)
 
+  pub same_behind : (same : Bool) (place place' count count' : ℕ) → same ≡ ((place' == place) && (count' == count)) → place ≡ slice_index p.places h
+      → place' ≡ slice_index q.places h → count ≡ slice_index p.counts h → count' ≡ slice_index q.counts h → same ≡ true → q ≡ p
+  same_behind same place place' count count' is place_was place_is count_was count_is e =
+      let both = and_parts (place' == place) (count' == count) (sym is ∙ e) in
+      same_board p q s h moved.0 (told pace) reaches inside turn (sym place_is ∙ eqb-true place' place both.0 ∙ place_was)
+      (sym count_is ∙ eqb-true count' count both.1 ∙ count_was)
+
   pub marks_behind : (same : Bool) (place place' count count' : ℕ) (ended old mid new over : List Bool) (mark : Bool)
       → same ≡ ((place' == place) && (count' == count)) → place ≡ slice_index p.places h → place' ≡ slice_index q.places h
       → count ≡ slice_index p.counts h → count' ≡ slice_index q.counts h → mark ≡ not (goes_by pace) → AreStill p old
       → HaveEnded p ended → StayMarked same ended old mid → IsMarkedAs h mark mid new → IsMarkedAs h (ends_by pace) ended over
       → AreStill q new × HaveEnded q over
   marks_behind same place place' count count' ended old mid new over mark is place_was place_is count_was count_is is_mark still have stay marked closed =
-      let board_stays : same ≡ true → q ≡ p = λ e.
-      let both = and_parts (place' == place) (count' == count) (sym is ∙ e) in
-      same_board p q s h moved.0 (told pace) reaches inside turn (sym place_is ∙ eqb-true place' place both.0 ∙ place_was)
-      (sym count_is ∙ eqb-true count' count both.1 ∙ count_was) in (
+      let board_stays = same_behind same place place' count count' is place_was place_is count_was count_is in (
         still_behind p q s h moved.0 pace reaches inside turn same ended old mid new mark is_mark have still board_stays stay marked,
         ended_behind p q s h moved.0 pace reaches inside turn ended over have closed,
       )

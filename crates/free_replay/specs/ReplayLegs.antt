@@ -12,6 +12,7 @@ use Rattle.turn_table.specs.Passes.{IsIdle, IsPassOf, hart_of, turns_of}
 use Rattle.replay_core.specs.declared.went.Pace.{Pace}
 use Rattle.replay_core.specs.declared.went.Pace.TheVariants.{Go}
 use Rattle.replay_core.specs.Turns.{told}
+use Rattle.replay_core.specs.Items.{IsStuck}
 use Rattle.replay_parts.specs.Boards.{Plain, state_of}
 use Rattle.replay_parts.specs.Parts.{IsPart, Part, part_of}
 use Rattle.replay_parts.specs.Turns.{IsTurn, Told}
@@ -45,3 +46,10 @@ pub record HasLed (t : TurnTable Plain Part) (old new : Pass Plain Part) (before
   pub hart : hart_of new ≡ hart_of old
   pub turn : HasTurnOnce old new before after until (told pace)
   pub go : (to : ℕ) → pace ≡ Go to → MayMoveTo (passes.part_of new) after to
+
+-- The latest turn of the pass is the one turn that it had since, and from the board that it gave no hart can go on.
+pub record GaveStuck (old new : Pass Plain Part) : Type 0 where
+  pub taken : Plain
+  pub given : Plain
+  pub turns : turns_of new ≡ turns_of old ++ (taken, given) ∷ []
+  pub stuck : IsStuck given.log (state_of given)

@@ -114,7 +114,7 @@ fn are_still(still: &[bool; PLACES], harts: u8) -> bool
 }
 
 impl ReplayTurns {
-    ghost use Rattle.std.specs.Prelude.{ℕ, ◌≡◌, ◌<◌, length, IsTrue};
+    ghost use Rattle.std.specs.Prelude.{ℕ, ◌≡◌, ◌<◌, length, IsTrue, false};
     ghost use Rattle.flat_machine.specs.State.{FlatState};
     ghost use Rattle.replay_model.specs.State.{Replay};
     ghost use Rattle.run_model.specs.Run.{number_of};
@@ -157,6 +157,7 @@ impl ReplayTurns {
         requires inside { number_of run.old < length self.old.log.streams }
         ensures turned { HasTurn self.old self.new run.old run.new (told result.0) }
         ensures number { number_of run.new ≡ number_of run.old }
+        ensures changed { result.1 ≡ false → self.new ≡ self.old }
     {
         let _ = self.board.harts();
         let hart = number_of(run);

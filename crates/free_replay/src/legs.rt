@@ -1,8 +1,9 @@
 //! A leg of one hart on its own run, and then its turn at the board.
 
+ghost use Rattle.std.specs.Prelude.{IsTrue};
 ghost use Rattle.turn_table.specs.Passes.{part_of};
 ghost use Rattle.free_replay.specs.Parts.{MayMoveTo};
-ghost use Rattle.free_replay.specs.ReplayLegs.{HasLed, IsReady};
+ghost use Rattle.free_replay.specs.ReplayLegs.{GaveStuck, HasLed, IsReady};
 
 use crate::board::ReplayTurns;
 use free_run::take_board;
@@ -37,7 +38,8 @@ pub(crate) fn leg_and_turn<R: Wait, G: Gate>(
 ) -> (Paced, bool)
     requires ready { IsReady table.now pass.old run.old }
     requires until { MayMoveTo (part_of pass.old) run.old until }
-    ensures { HasLed table.now pass.old pass.new run.old run.new until result.0.pace }
+    ensures led { HasLed table.now pass.old pass.new run.old run.new until result.0.pace }
+    ensures over { IsTrue result.0.over → GaveStuck pass.old pass.new }
 {
     let hart = hart_of(run);
     gate.pass(hart, leg, false);
@@ -64,7 +66,8 @@ pub fn replay_leg<R: Wait, G: Gate>(
 ) -> Paced
     requires ready { IsReady table.now pass.old run.old }
     requires until { MayMoveTo (part_of pass.old) run.old until }
-    ensures { HasLed table.now pass.old pass.new run.old run.new until result.pace }
+    ensures led { HasLed table.now pass.old pass.new run.old run.new until result.pace }
+    ensures over { IsTrue result.over → GaveStuck pass.old pass.new }
 {
     let (paced, _) = leg_and_turn(wait, table, pass, run, until, gate, leg);
     paced

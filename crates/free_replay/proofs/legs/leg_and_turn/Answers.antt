@@ -1,6 +1,6 @@
 use Rattle.turn_table.specs.Passes.{hart_of, part_of}
 use Rattle.replay_core.specs.Turns.{told}
-use Rattle.free_replay.proofs.OneTurn.{has_led, one_changes, taken_by}
+use Rattle.free_replay.proofs.OneTurn.{gave_stuck, has_led, one_changes, taken_by}
 use Rattle.free_replay.proofs.legs.leg_and_turn.Goals as goal
 
 pub turn-pace-requires-clause-moved : goal.turn-pace-requires-clause-moved
@@ -28,8 +28,8 @@ give-requires-clause-parts g c =
     c.turn-pace.new.run c.args.until
     c.advance.result (told c.turn-pace.result.0) taken c.turn-pace.ensures.turned c.take_board-board.ensures.same c.take_board-board.ensures.holds
 
-pub returns : goal.returns
-returns g c =
+pub returns-clause-led : goal.returns-clause-led
+returns-clause-led g c =
     let b = c.take_board-board.result in
     let P = c.args.pass.now in
     let taken =
@@ -39,3 +39,8 @@ returns g c =
     c.args.until c.advance.result c.turn-pace.result.0 taken c.turn-pace.ensures.turned c.advance.ensures.kept c.take_board-board.ensures.same
     c.take_board-board.ensures.holds c.take_board-board.ensures.part c.give.ensures.table c.give.ensures.idle c.give.ensures.hart c.give.ensures.part
     c.give.ensures.turn
+
+pub returns-clause-over : goal.returns-clause-over
+returns-clause-over g c told_so =
+    gave_stuck c.args.pass.now c.take_board-board.new.pass c.give.new.pass c.take_board-board.result c.turn-pace.new.self c.take_board-board.ensures.same
+    c.take_board-board.ensures.holds c.give.ensures.turn (c.over-over.ensures.over told_so)

@@ -7,4 +7,4 @@ pub returns : goal.returns
 returns g c =
     let leg = c.leg_and_turn-over in
     after_turn c.args.table.now c.args.worker.now _ c.args.worker.now.until leg.result.0.pace
-    (c.until_of-worker.ensures ∙ ap (until_told leg.result.0.pace) c.count.ensures) leg.ensures
+    (c.until_of-worker.ensures ∙ ap (until_told leg.result.0.pace) c.count.ensures) leg.ensures.led
