@@ -195,6 +195,13 @@ impl<C: Console, K: Clock> Board<C, K> {
         turned.order
     }
 
+    /// How many turns have a row. A turn that has none changed nothing.
+    pub fn rows(&self) -> usize
+        ensures { result ≡ length self.now.turns }
+    {
+        self.turns.count()
+    }
+
     /// Names the hart that is favoured.
     pub fn favour(&mut self, hart: u8)
         requires { hart < self.old.harts }

@@ -50,6 +50,13 @@ impl<N: Drop> Rows<N> {
         }
     }
 
+    /// How many there are.
+    pub(crate) fn count(&self) -> usize
+        ensures { result ≡ length self.now.rows }
+    {
+        self.rows.len()
+    }
+
     /// The rows as a list.
     pub(crate) fn into_list(self) -> Listed<(u8, N)>
         ensures { result ≡ self.rows }
