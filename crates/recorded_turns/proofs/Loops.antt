@@ -55,7 +55,7 @@ leg_left terms m h o = by (told_to m h) where
   by (Some (Go until)) = refl
 
 -- nothing behind
-then_none : (o : Option (Board FlatState)) → option_and_then (λ b. Some b) o ≡ o
+pub then_none : (o : Option (Board FlatState)) → option_and_then (λ b. Some b) o ≡ o
 then_none None = refl
 then_none (Some b) = refl
 

@@ -80,7 +80,7 @@ faults_none : (a : Option Cause) (x : ℕ) → CountsFaults a a x x
 faults_none None x = refl
 faults_none (Some k) x = refl
 
-same_then : (p m q : Plain) → SameTerms p m → SameTerms m q → SameTerms p q
+pub same_then : (p m q : Plain) → SameTerms p m → SameTerms m q → SameTerms p q
 same_then p m q one two = record {
   image = two.image ∙ one.image;
   harts = two.harts ∙ one.harts;

@@ -85,7 +85,7 @@ moved_of p h n r holds is =
     let number = parts_are_numbered p h n r holds.whole holds.reached is in
     ((n, subst (λ k. IsPartAdvanced p k n r) (sym number) is), number)
 
-turn_of : (p : Plain) (h n : ℕ) (r : Run) → IsBoardOf p → h < p.harts → IsPartAdvanced p h n r → IsTurnOf p h n r
+pub turn_of : (p : Plain) (h n : ℕ) (r : Run) → IsBoardOf p → h < p.harts → IsPartAdvanced p h n r → IsTurnOf p h n r
 turn_of p h n r holds inside is =
     record { whole = holds.whole; reached = holds.reached; counts = holds.counts; hart = inside; part = is }
 
