@@ -1,5 +1,5 @@
 -- A leg that is made before the board is there, and the turn behind it.
-use Rattle.std.proofs.Common.{◌≡◌, ◌≢◌, ℕ, ◌<◌, ◌≤◌, List, [], ◌∷◌, ◌++◌, map, length, Option, Some, slice_get, refl, sym, ap, ap₂, ◌∙◌, subst, arith}
+use Rattle.std.proofs.Common.{◌≡◌, ◌≢◌, ℕ, ◌<◌, ◌≤◌, [], ◌∷◌, ◌++◌, map, length, Option, Some, slice_get, refl, sym, ap, ap₂, ◌∙◌, subst, arith}
 use Rattle.log_entry.specs.declared.log.Log.{Log}
 use Rattle.log_entry.specs.Parts.{unit_of}
 use Rattle.flat_machine.specs.State.{FlatState}
@@ -26,7 +26,7 @@ use Rattle.replay_core.specs.declared.went.Pace.{Pace}
 use Rattle.replay_core.specs.Turns.{HasTurn, IsPartMoved, told}
 use Rattle.free_replay.specs.Parts.{IsOnRecord, IsRunOf, MayMoveTo, parts_of}
 use Rattle.replay_core.specs.Items.{IsStuck}
-use Rattle.free_replay.specs.ReplayLegs.{GaveStuck, HasLed, HasTurnOnce, IsReady}
+use Rattle.free_replay.specs.ReplayLegs.{GaveStuck, HasLed, HasTurnOnce}
 use Rattle.free_replay.proofs.Parts.{changes_only, part_here, part_on_record, part_there, run_of_part}
 
 -- a leg on frames of another unit, of which there is none

@@ -1,8 +1,9 @@
 -- Harts that can't go on.
-use Rattle.std.proofs.Common.{◌≡◌, ◌≢◌, ◌⊎◌, inl, inr, ℕ, ◌<◌, ◌==◌, ◌&&◌, Bool, true, false, List, length, replicate, slice_set, slice_index, slice_index_or, refl, sym, ap, ap₂, not, Option, Some, None, if◌then◌else◌}
+use Rattle.std.proofs.Common.{◌≡◌, ◌≢◌, inl, inr, ℕ, ◌<◌, ◌==◌, ◌&&◌, Bool, true, false, List, length, slice_set, slice_index, refl, sym, ap, ap₂, not}
+use Rattle.std.proofs.Common.{Option, Some, None, if◌then◌else◌}
 use Rattle.std.proofs.Common.{◌∙◌, subst, arith, true≢false}
-use Rattle.std.proofs.lemmas.Bool.{cases_eq, and_parts, eqb-true}
-use Rattle.std.proofs.lemmas.List.{get_or-replicate, get_or-set_other, get_or-set_same, set-get_or, length-replicate}
+use Rattle.std.proofs.lemmas.Bool.{and_parts, eqb-true}
+use Rattle.std.proofs.lemmas.List.{get_or-set_same, set-get_or}
 use Rattle.log_entry.specs.declared.log.Log.{Log}
 use Rattle.log_entry.specs.Parts.{unit_of}
 use Rattle.order_rules.specs.Places.{entry_at}
@@ -11,7 +12,8 @@ use Rattle.flat_machine.specs.State.{FlatState}
 use Rattle.replay_model.specs.Board.{board}
 use Rattle.replay_model.specs.State.{Replay}
 use Rattle.replay_model.specs.Items as items
-use Rattle.replay_model.specs.Items.{Item, Move, Makes, Verdict, HasEnded, Holds, CanGo, HasDiverged, broken_rule, item_at, judged, next_item, verdict, verdict_on}
+use Rattle.replay_model.specs.Items.{Item, Move, Makes, Verdict, HasEnded, Holds, CanGo, HasDiverged, broken_rule, item_at, judged, next_item, verdict}
+use Rattle.replay_model.specs.Items.{verdict_on}
 use Rattle.replay_parts.specs.Boards.{Plain, state_of}
 use Rattle.replay_parts.specs.Laws.{Reaches}
 use Rattle.replay_parts.specs.Parts.{Part, until_in}
@@ -23,8 +25,7 @@ use Rattle.replay_core.specs.declared.went.Pace.{Pace}
 use Rattle.replay_core.specs.declared.went.Pace.TheVariants as paces
 use Rattle.run_model.specs.Run.{Run, number_of}
 use Rattle.replay_core.specs.Turns.{HasTurn, IsPartMoved, told}
-use Rattle.replay_core.specs.Items.{IsStuck}
-use Rattle.free_replay.specs.ReplayTurns.{AreStill, HaveEnded, StayMarked, IsMarkedAs, ends_by, goes_by, is_still}
+use Rattle.free_replay.specs.ReplayTurns.{AreStill, HaveEnded, StayMarked, IsMarkedAs, ends_by, goes_by}
 
 not_true : (b : Bool) → not b ≡ true → b ≡ false
 not_true true e = absurd (true≢false (sym e))

@@ -27,7 +27,7 @@ use Rattle.replay_core.specs.declared.went.Pace.{Pace}
 use Rattle.replay_core.specs.declared.went.Pace.TheVariants as paces
 use Rattle.replay_core.specs.Ends.{IsOutcomeOf}
 use Rattle.replay_core.specs.Standing.{ComesTo, IsAt}
-use Rattle.replay_core.specs.Turns.{AreParts, told}
+use Rattle.replay_core.specs.Turns.{AreParts}
 use Rattle.free_run.proofs.Working.{AllZip-pop, AllZip-more}
 use Rattle.free_replay.specs.declared.worker.Worker.{Worker}
 use Rattle.free_replay.specs.Parts.{IsRunOf, MayMoveTo, parts_of}
@@ -87,7 +87,8 @@ after_turn t v w until pace far led = record {
 
 continues_none : (t : TurnTable Plain Part) (p : Pass Plain Part) (r : Run) → IsReady t p r → Continues p p
 continues_none t p r ready =
-    record { hart = refl; before = ready.on_record.part; after = ready.on_record.part; was = ready.on_record.is; is = ready.on_record.is; log = refl; image = refl }
+    record { hart = refl; before = ready.on_record.part; after = ready.on_record.part; was = ready.on_record.is; is = ready.on_record.is; log = refl; image =
+        refl }
 
 continues_then : (p q s : Pass Plain Part) → Continues p q → Continues q s → Continues p s
 continues_then p q s a b =

@@ -1,6 +1,5 @@
 -- A leg of one hart of a replay, and its turn (docs/threads.md).
 use Rattle.std.specs.Prelude.{ℕ, ◌≡◌, ◌++◌, ◌∷◌, [], Some}
-use Rattle.flat_machine.specs.State.{FlatState}
 use Rattle.log_entry.specs.Parts.{unit_of}
 use Rattle.run_model.specs.Run.{Run}
 use Rattle.run_model.specs.Legs.{KeepsPages, MakesLeg}

@@ -4,9 +4,9 @@ ghost use Rattle.std.specs.Prelude.{◌≡◌, IfOk};
 ghost use Rattle.replay_core.specs.Ends.{IsOutcomeOf};
 
 use crate::board::ReplayTurns;
-use crate::events::EventCount;
 use crate::workers::run_list;
 use elf_image::Image;
+use free_run::EventCount;
 use log_order::Orderly;
 use outside::Gate;
 use replay_core::{Outcome, ReplayBoard};

@@ -6,7 +6,7 @@ ghost use Rattle.free_replay.specs.Parts.{MayMoveTo};
 ghost use Rattle.free_replay.specs.ReplayLegs.{GaveStuck, HasLed, IsReady};
 
 use crate::board::ReplayTurns;
-use free_run::take_board;
+use free_run::{hart_number, take_board};
 use hart_run::HartRun;
 use outside::Gate;
 use replay_core::Pace;
@@ -18,12 +18,6 @@ use turn_table::{Pass, TurnTable};
 pub struct Paced {
     pub pace: Pace,
     pub over: bool,
-}
-
-/// The number of a run's hart, for the gate.
-fn hart_of(run: &HartRun) -> u8 {
-    let number = run.hart().csr(0xf14).unwrap_or(0);
-    u8::try_from(number).unwrap_or(0)
 }
 
 /// A leg and a turn, and whether the turn changed anything.
@@ -41,7 +35,7 @@ pub(crate) fn leg_and_turn<R: Wait, G: Gate>(
     ensures led { HasLed table.now pass.old pass.new run.old run.new until result.0.pace }
     ensures over { IsTrue result.0.over → GaveStuck pass.old pass.new }
 {
-    let hart = hart_of(run);
+    let hart = hart_number(run);
     gate.pass(hart, leg, false);
     let _ = run.advance(until);
     gate.pass(hart, leg, true);

@@ -2,7 +2,6 @@
 #![tactic(auto)]
 
 mod board;
-mod events;
 mod free;
 mod legs;
 #[cfg(test)]

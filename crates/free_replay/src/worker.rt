@@ -4,8 +4,8 @@ ghost use Rattle.std.specs.Prelude.{◌≡◌};
 ghost use Rattle.free_replay.specs.Workers.{IsReadyWorker, HasWorked, until_told};
 
 use crate::board::ReplayTurns;
-use crate::events::EventCount;
 use crate::legs::{Paced, leg_and_turn};
+use free_run::{EventCount, Next};
 use hart_run::HartRun;
 use outside::Gate;
 use replay_core::Pace;
@@ -21,14 +21,6 @@ pub(crate) struct Worker {
     pub(crate) until: u64,
     /// How many legs it has made.
     pub(crate) legs: u64,
-}
-
-/// What a worker does behind a turn: it moves on, sleeps until another turn changes something, or ends.
-#[derive(Clone, Copy, Drop)]
-pub(crate) enum Next {
-    Moves,
-    Sleeps,
-    Ends,
 }
 
 /// Up to which count a run at this count may move that was told this.
@@ -47,7 +39,7 @@ fn next_of(pace: Pace, over: bool) -> Next {
     match pace {
         _ if over => Next::Ends,
         Pace::Go { .. } => Next::Moves,
-        Pace::Hold | Pace::Diverged(_) => Next::Sleeps,
+        Pace::Hold | Pace::Diverged(_) => Next::Waits,
         Pace::Ended => Next::Ends,
     }
 }
@@ -98,7 +90,7 @@ pub(crate) fn work<R: Wait, G: Gate>(
         let read = events.read();
         match step(wait, table, gate, events, &mut at_work) {
             Next::Moves => {}
-            Next::Sleeps => events.sleep(wait, read),
+            Next::Waits => events.wait_beyond(wait, read),
             Next::Ends => return at_work,
         }
     }

@@ -1,14 +1,14 @@
 //! A thread for each hart, and this thread for those that none can be started for.
 
-ghost use Rattle.std.specs.Prelude.{◌≡◌, ◌<◌, ◌≤◌, ◌+◌, ◌++◌, [], ◌∷◌, All, vec_len, vec_capacity};
+ghost use Rattle.std.specs.Prelude.{◌≡◌, true, ◌<◌, ◌≤◌, ◌+◌, ◌++◌, [], ◌∷◌, All, vec_len, vec_capacity};
 ghost use Rattle.std.specs.List.{AllZip};
 ghost use Rattle.std.specs.Thread.{IsSync};
 ghost use Rattle.free_replay.specs.ReplayLegs.{IsReady};
 ghost use Rattle.free_replay.specs.Workers.{IsReadyWorker, HasWorked, Continues};
 
 use crate::board::ReplayTurns;
-use crate::events::EventCount;
-use crate::worker::{Next, Worker, step, work};
+use crate::worker::{Worker, step, work};
+use free_run::{EventCount, Next, put};
 use hart_run::HartRun;
 use outside::Gate;
 use std::snapshot::Snapshot;
@@ -29,15 +29,6 @@ impl Promise<Worker> for Works {
     ghost kept_by = { λ p w. HasWorked p.table.value p.worker.value w };
 }
 
-/// What a thread does whose workers do these: it moves on where one does, and ends where all have ended.
-fn both(one: Next, other: Next) -> Next {
-    match (one, other) {
-        (Next::Moves, _) | (_, Next::Moves) => Next::Moves,
-        (Next::Ends, Next::Ends) => Next::Ends,
-        _ => Next::Sleeps,
-    }
-}
-
 /// One leg and one turn of each worker of this thread.
 fn step_each<R: Wait, G: Gate>(
     wait: &R,
@@ -51,7 +42,7 @@ fn step_each<R: Wait, G: Gate>(
 {
     let mut next = Next::Ends;
     for i in 0..mine.len() {
-        next = both(next, step(wait, table, gate, events, &mut mine[i]));
+        next = next.with(step(wait, table, gate, events, &mut mine[i]));
     }
     next
 }
@@ -71,21 +62,11 @@ fn work_here<R: Wait, G: Gate>(
         let read = events.read();
         match step_each(wait, table, gate, events, mine) {
             Next::Moves => {}
-            Next::Sleeps => events.sleep(wait, read),
+            Next::Waits => events.wait_beyond(wait, read),
             Next::Ends => return,
         }
     }
     unreachable!()
-}
-
-/// Adds one for which there is room.
-fn put<X: Drop>(list: &mut Vec<X>, x: X)
-    requires { vec_len list.old < vec_capacity list.old }
-    ensures items { list.new.items ≡ list.old.items ++ x ∷ [] }
-    ensures count { vec_len list.new ≡ vec_len list.old + 1 }
-    ensures room { vec_capacity list.old ≤ vec_capacity list.new }
-{
-    let Ok(()) = list.push(x) else { unreachable!() };
 }
 
 /// Puts a worker's pass and run behind the others.
@@ -123,13 +104,14 @@ fn run_worker<R: Wait, G: Gate>(
     table: &TurnTable<ReplayTurns>,
     gate: &G,
     events: &EventCount,
-    refused: bool,
+    no_thread: bool,
     worker: Worker,
 ) -> Worker
     requires { IsReadyWorker table.now worker }
-    ensures { HasWorked table.now worker result }
+    ensures worked { HasWorked table.now worker result }
+    ensures back { no_thread ≡ true → result ≡ worker }
 {
-    if refused {
+    if no_thread {
         return worker;
     }
     work(wait, table, gate, events, worker)
@@ -167,8 +149,8 @@ pub(crate) fn run_list<T: Threads + Wait + Sync, G: Gate>(
         unreachable!()
     };
     let worker = worker_of(table, pass, run);
-    let refused = AtomicBool::new(false);
-    let refused = &refused;
+    let no_thread = AtomicBool::new(false);
+    let no_thread = &no_thread;
     thread::scope(
         thread::scope_env(),
         rt,
@@ -196,8 +178,8 @@ pub(crate) fn run_list<T: Threads + Wait + Sync, G: Gate>(
                 requires { IsReadyWorker table.now worker }
                 ensures { HasWorked table.entry.now worker result }
             {
-                let refused = refused.load(Ordering::SeqCst);
-                run_worker(rt, table, gate, events, refused, worker)
+                let no_thread = no_thread.load(Ordering::SeqCst);
+                run_worker(rt, table, gate, events, no_thread, worker)
             };
             match scope.spawn_with(promise, run) {
                 Ok(child) => {
@@ -208,7 +190,7 @@ pub(crate) fn run_list<T: Threads + Wait + Sync, G: Gate>(
                     (passes, runs, mine)
                 }
                 Err(back) => {
-                    refused.store(true, Ordering::SeqCst);
+                    no_thread.store(true, Ordering::SeqCst);
                     put(&mut mine, (back.value)());
                     let (mut passes, mut runs, mut mine) = run_list(
                         rt, table, gate, events, passes, runs, mine,

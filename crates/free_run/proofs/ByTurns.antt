@@ -1,5 +1,5 @@
 -- Boards that turns alone change.
-use Rattle.std.proofs.Common.{◌≡◌, ◌⊎◌, inl, inr, ℕ, ◌<◌, ◌≤◌, min, true, List, [], ◌∷◌, ◌++◌, length, Option, Some, None, refl, sym, ap, ap₂}
+use Rattle.std.proofs.Common.{◌≡◌, ◌⊎◌, inl, inr, ℕ, ◌<◌, ◌≤◌, min, true, List, [], ◌∷◌, ◌++◌, length, Some, refl, sym, ap, ap₂}
 use Rattle.std.proofs.Common.{◌∙◌, subst}
 use Rattle.std.proofs.Common.{arith, true≢false}
 use Rattle.std.specs.Option.{option_and_then}
@@ -13,14 +13,14 @@ use Rattle.turn_laws.specs.Supplies.{followed_by}
 use Rattle.turn_laws.proofs.Legs.{reached_are_crew}
 use Rattle.crew_parts.specs.Boards.{Plain, IsBoardOf, the_machine, board_of, spent, state_of, terms_of}
 use Rattle.crew_parts.specs.Laws.{IsTurnOf}
-use Rattle.crew_parts.specs.Parts.{IsPart, IsPartAdvanced, IsPartMoved, number_of}
+use Rattle.crew_parts.specs.Parts.{IsPart, IsPartMoved, number_of}
 use Rattle.crew_parts.specs.Turns.{HasTurn, SameTerms}
 use Rattle.crew_parts.proofs.Laws.{moves_are_told}
 use Rattle.crew_parts.proofs.Turned.{first_spent, then_spent}
 use Rattle.recorded_turns.specs.Takes.{Takes}
 use Rattle.recorded_turns.proofs.Taking.{takes_none, takes_then, takes_turn, turn_silent}
-use Rattle.recorded_turns.proofs.Loops.{rows_are_taken, takes_by, terms_stay}
-use Rattle.recorder.proofs.Manning.{given_none, given_then, room_moved, room_turn}
+use Rattle.recorded_turns.proofs.Loops.{rows_are_taken, takes_by, terms_stay, then_none}
+use Rattle.recorder.proofs.Manning.{given_none, given_then, room_moved, room_turn, turn_of}
 use Rattle.recorder.specs.Manned.{HasGiven}
 use Rattle.free_run.specs.RecordBoards.{IsByTurns, abandoned_in, start_of}
 use Rattle.free_run.proofs.Unnoted.{noted_or_unchanged}
@@ -50,10 +50,6 @@ same_start p q same =
     ap₂ (λ image harts. start_of (record q { image = image; harts = harts })) same.image same.harts
     ∙ ap₂ (λ limit log_limit. start_of (record q { image = p.image; harts = p.harts; limit = limit; log_limit = log_limit })) same.limit same.log_limit
     ∙ ap (λ first. start_of (record q { image = p.image; harts = p.harts; limit = p.limit; log_limit = p.log_limit; first = first })) same.first
-
-then_none : (o : Option (Board FlatState)) → option_and_then (λ b. Some b) o ≡ o
-then_none None = refl
-then_none (Some b) = refl
 
 -- what a turn that changed nothing takes
 unchanged_takes : (p q : Plain) (h : ℕ) (before after : Run) (order : Order) (is : HasTurn p q h before after order)
@@ -127,9 +123,6 @@ further p q h n r after order from inside is so_far =
         (start_of p) q (λ o. sym (then_none (listed the_machine (terms_of p) p.turns (board_of (start_of p) o))))
         (takes_then (terms_of p) (listed the_machine (terms_of p) p.turns) (λ b. Some b) (start_of p) p q so_far
         (unchanged_takes p q h r after order is same)))
-
-pub turn_of : (p : Plain) (h n : ℕ) (r : Run) → IsBoardOf p → h < p.harts → IsPartAdvanced p h n r → IsTurnOf p h n r
-turn_of p h n r holds there is = record { whole = holds.whole; reached = holds.reached; counts = holds.counts; hart = there; part = is }
 
 pub by_turn : (p q : Plain) (h n : ℕ) (r after : Run) (order : Order) → IsByTurns p → IsBoardOf p → IsTurnOf p h n r → HasTurn p q h r after order
     → IsByTurns q

@@ -13,7 +13,7 @@ use Rattle.crew_parts.specs.Parts.{AreParts, IsPart, Part, part_of, until_of}
 use Rattle.crew_parts.specs.Turns.{SameTerms}
 use Rattle.crew_core.proofs.Hands.{counted}
 use Rattle.free_run.specs.Parts.{IsRunOf, parts_of}
-use Rattle.free_run.specs.Workers.{AreOfOneBoard, HasLed}
+use Rattle.free_run.specs.Workers.{AreOfOneBoard, IsBack}
 use Rattle.free_run.proofs.Parts.{each_here, part_on_record, part_there, parts_number, run_of_part}
 use Rattle.free_run.proofs.Pairing.{Begins, Idle, OnRecord, each_of, zip_before, zip_behind, zip_by_place, zip_length}
 
@@ -63,10 +63,10 @@ module _ (t : TurnTable Plain Part) (start b : Plain) (ps qs : List (Pass Plain 
     is : slice_get (parts_of b) h ≡ Some after
     terms : AreOfOneBoard before after
 
-  place : (h : ℕ) (q : Pass Plain Part) → AreOf (parts_of start) ps → AllZip (HasLed t) ps qs
+  place : (h : ℕ) (q : Pass Plain Part) → AreOf (parts_of start) ps → AllZip (IsBack t) ps qs
       → All (HasItsPart b) qs → slice_get qs h ≡ Some q → Place h q
   place h q of led parts at =
-      let z = zip_before (HasLed t) ps qs h q led at in
+      let z = zip_before (IsBack t) ps qs h q led at in
       let on = z.2.continues in
       let p = of h z.0 z.1 in
       let hart : hart_of q ≡ h = on.hart ∙ p.0 in
@@ -79,22 +79,22 @@ module _ (t : TurnTable Plain Part) (start b : Plain) (ps qs : List (Pass Plain 
         terms = on.terms;
       }
 
-  pub closed_terms : 1 ≤ start.harts → length ps ≡ start.harts → AreOf (parts_of start) ps → AllZip (HasLed t) ps qs
+  pub closed_terms : 1 ≤ start.harts → length ps ≡ start.harts → AreOf (parts_of start) ps → AllZip (IsBack t) ps qs
       → All (HasItsPart b) qs → SameTerms start b
   closed_terms some number of led parts =
       let first = found_at ps 0 (omega (arith, some, number)) in
-      let z = zip_behind (HasLed t) ps qs 0 first.0 led first.1 in
+      let z = zip_behind (IsBack t) ps qs 0 first.0 led first.1 in
       let at = place 0 z.0 of led parts z.1 in
       let last : at.after ≡ part_of b 0 = (part_there b 0 at.after at.is).1 in
       let one : AreOfOneBoard (part_of start 0) (part_of b 0) =
       subst (AreOfOneBoard (part_of start 0)) last (subst (λ x. AreOfOneBoard x at.after) at.was at.terms) in
       record { image = one.image; harts = one.harts; limit = one.limit; log_limit = one.log_limit; first = one.first }
 
-  pub closed_parts : (rs : List Run) → IsBoardOf b → length ps ≡ length (parts_of b) → AreOf (parts_of start) ps → AllZip (HasLed t) ps qs
+  pub closed_parts : (rs : List Run) → IsBoardOf b → length ps ≡ length (parts_of b) → AreOf (parts_of start) ps → AllZip (IsBack t) ps qs
       → All (HasItsPart b) qs → AllZip OnRecord qs rs → AreParts b rs
   closed_parts rs holds number of led parts on = record {
     number =
-        let one = zip_length (HasLed t) ps qs led in
+        let one = zip_length (IsBack t) ps qs led in
         let two = zip_length OnRecord qs rs on in
         let three = parts_number b in
         omega (arith, one, two, three, number);

@@ -18,12 +18,13 @@ use Rattle.recorded_turns.specs.Takes.{Takes}
 use Rattle.recorded_turns.proofs.Loops.{terms_stay}
 use Rattle.recorded_turns.proofs.Over.{over_is_over}
 use Rattle.recorded_turns.proofs.Recordings.{comes_out}
+use Rattle.recorded_turns.proofs.Taking.{same_then}
 use Rattle.recorder.specs.Manned.{HasGiven}
 use Rattle.recorder.proofs.Listing.{limits_of}
 use Rattle.free_run.specs.RecordBoards.{IsByTurns, abandoned_in, start_of}
 use Rattle.free_run.specs.Recordings.{Freely, HaveRun, RecordsFreely}
 use Rattle.free_run.proofs.ByTurns.{by_abandoned, same_start}
-use Rattle.free_run.proofs.Turning.{abandoned_is, abandoned_terms, terms_then}
+use Rattle.free_run.proofs.Turning.{abandoned_is, abandoned_terms}
 
 -- a board that was abandoned
 pub abandoned_ran : (p q : Plain) (runs : List Run) → IsByTurns p → q ≡ abandoned_in p → HaveRun p q runs
@@ -35,7 +36,7 @@ abandoned_ran p q runs by e = record {
 
 -- a board of the same terms ran
 pub ran_from : (p m q : Plain) (runs : List Run) → SameTerms p m → HaveRun m q runs → HaveRun p q runs
-ran_from p m q runs same ran = record { terms = terms_then p m q same ran.terms; turns = ran.turns; ended = ran.ended }
+ran_from p m q runs same ran = record { terms = same_then p m q same ran.terms; turns = ran.turns; ended = ran.ended }
 
 -- turns led on, until the board was over
 pub ran_on : (p q e : Plain) (runs : List Run) → SameTerms p q → IsByTurns q → (q.abandoned ≡ false → AreParts q runs × (is_over_in q ≡ true)) → e ≡ q

@@ -18,10 +18,11 @@ use Rattle.crew_parts.specs.Parts.{IsPartAdvanced, IsPartMoved, Part, number_of,
 use Rattle.crew_parts.specs.Turns.{HasTurn}
 use Rattle.crew_parts.proofs.Laws.{legs_advance, nothing_is_changed, parts_are_numbered}
 use Rattle.recorded_turns.proofs.Advanced.{turns_leave_parts}
+use Rattle.recorder.proofs.Manning.{turn_of}
 use Rattle.free_run.specs.Parts.{IsOnRecord, IsRunOf, MayMoveTo, parts_of}
 use Rattle.free_run.specs.RecordBoards.{abandoned_in}
 use Rattle.free_run.specs.RecordLegs.{HasGoneTo, HasNoTurn, HasTurnOnce}
-use Rattle.free_run.proofs.ByTurns.{moves_had, turn_of}
+use Rattle.free_run.proofs.ByTurns.{moves_had}
 use Rattle.free_run.proofs.Parts.{changes_only, each_here, part_on_record, part_there, run_of_part}
 
 -- a leg on frames of another unit, of which there is none
@@ -61,6 +62,9 @@ taken_by b h o r led until pause holds at on may kept agrees =
     }
 
 -- ---- passes
+
+pub same_hart : (P M N : Pass Plain Part) → hart_of N ≡ hart_of M → IsSame P M → hart_of N ≡ hart_of P
+same_hart P M N given same = given ∙ same.hart
 
 module _ (P M N : Pass Plain Part) (b q : Plain) where
   pub one_more : IsSame P M → HoldsBoard parts_of b M → turns_of N ≡ turns_of M ++ map (λ a. (a, q)) (taken_of M)

@@ -14,7 +14,7 @@ use Rattle.turn_table.specs.Passes.{IsPassOf, IsIdle, hart_of}
 use Rattle.crew_parts.specs.Boards.{Plain}
 use Rattle.crew_parts.specs.Parts.{Part}
 use Rattle.free_run.specs.Parts.{IsOnRecord}
-use Rattle.free_run.specs.Workers.{HasLed, IsReady, first_job}
+use Rattle.free_run.specs.Workers.{IsBack, IsReady, first_job}
 use Rattle.free_run.proofs.Working.{Both, Ready, Worked}
 
 -- ---- lists by place
@@ -107,7 +107,7 @@ module _ (t : TurnTable Plain Part) where
       → map (λ (w : Both). w.1) ws ≡ map first_job rs → AllZip Begins ps rs → All (Ready t) ws
   begin_all ws ps rs ones others z = begin_each ws rs others (subst (λ xs. AllZip Begins xs rs) (sym ones) z)
 
-  pub led_all : (ws vs : List Both) → AllZip (Worked t) ws vs → AllZip (HasLed t) (map (λ (w : Both). w.0) ws) (map (λ (w : Both). w.0) vs)
+  pub led_all : (ws vs : List Both) → AllZip (Worked t) ws vs → AllZip (IsBack t) (map (λ (w : Both). w.0) ws) (map (λ (w : Both). w.0) vs)
   led_all [] [] z = tt
   led_all [] (v ∷ vs) z = absurd z
   led_all (w ∷ ws) [] z = absurd z
@@ -125,9 +125,9 @@ module _ (t : TurnTable Plain Part) where
   )
 
   pub led_out : (ws vs : List Both) (ps qs : List (Pass Plain Part)) → map (λ (w : Both). w.0) ws ≡ ps → qs ≡ map (λ (w : Both). w.0) vs
-      → AllZip (Worked t) ws vs → AllZip (HasLed t) ps qs
+      → AllZip (Worked t) ws vs → AllZip (IsBack t) ps qs
   led_out ws vs ps qs e f z =
-      subst (λ xs. AllZip (HasLed t) xs qs) e (subst (AllZip (HasLed t) (map (λ (w : Both). w.0) ws)) (sym f) (led_all ws vs z))
+      subst (λ xs. AllZip (IsBack t) xs qs) e (subst (AllZip (IsBack t) (map (λ (w : Both). w.0) ws)) (sym f) (led_all ws vs z))
 
   pub on_record_out : (ws vs : List Both) (qs : List (Pass Plain Part)) (rs : List Run) → qs ≡ map (λ (w : Both). w.0) vs
       → rs ≡ map (λ (w : Both). w.1.run) vs → AllZip (Worked t) ws vs → All HadRoom vs → AllZip OnRecord qs rs
@@ -140,7 +140,7 @@ module _ (t : TurnTable Plain Part) where
   abbrev pub Idle : Pass Plain Part → Type 0
   Idle p = IsPassOf t p × IsIdle p
 
-  pub all_idle : (ps qs : List (Pass Plain Part)) → AllZip (HasLed t) ps qs → All Idle qs
+  pub all_idle : (ps qs : List (Pass Plain Part)) → AllZip (IsBack t) ps qs → All Idle qs
   all_idle [] [] z = All-nil _
   all_idle [] (q ∷ qs) z = absurd z
   all_idle (p ∷ ps) [] z = absurd z
@@ -149,7 +149,7 @@ module _ (t : TurnTable Plain Part) where
   abbrev pub hart_in : Pass Plain Part → ℕ
   hart_in p = hart_of p
 
-  pub same_harts : (ps qs : List (Pass Plain Part)) → AllZip (HasLed t) ps qs → map hart_in qs ≡ map hart_in ps
+  pub same_harts : (ps qs : List (Pass Plain Part)) → AllZip (IsBack t) ps qs → map hart_in qs ≡ map hart_in ps
   same_harts [] [] z = refl
   same_harts [] (q ∷ qs) z = absurd z
   same_harts (p ∷ ps) [] z = absurd z

@@ -27,6 +27,12 @@ module _ (name : Sym) (A B : RattleType) (a : IsSend A) (b : IsSend B) where
       let T = type_at name (A ∷ B ∷ C ∷ D ∷ E ∷ F ∷ []) in
       recorded_send _ _ _ T.to_one (struct_send (shape T) (a, (b, (c, (d, (e, (f, tt)))))))
 
+  pub more_captures_send : (C D E F G : RattleType) → IsSend C → IsSend D → IsSend E → IsSend F → IsSend G
+      → IsSend (TupleAt name (A ∷ B ∷ C ∷ D ∷ E ∷ F ∷ G ∷ []))
+  more_captures_send C D E F G c d e f g =
+      let T = type_at name (A ∷ B ∷ C ∷ D ∷ E ∷ F ∷ G ∷ []) in
+      recorded_send _ _ _ T.to_one (struct_send (shape T) (a, (b, (c, (d, (e, (f, (g, tt))))))))
+
 -- rows of a hart with a number each
 module _ (N : RattleType) (n : IsSend N) where
   list_send : IsSend (list.the_row N)

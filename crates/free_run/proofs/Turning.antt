@@ -17,9 +17,11 @@ use Rattle.crew_parts.specs.Turns.{HasTurn, SameTerms}
 use Rattle.crew_parts.proofs.Laws.{parts_are_numbered}
 use Rattle.crew_core.proofs.Hands.{counted}
 use Rattle.recorded_turns.proofs.Advanced.{parts_are_advanced, turns_leave_parts}
+use Rattle.recorded_turns.proofs.Taking.{same_then}
+use Rattle.recorder.proofs.Manning.{turn_of}
 use Rattle.free_run.specs.RecordBoards.{abandoned_in}
 use Rattle.free_run.specs.Recordings.{GoesOn}
-use Rattle.free_run.proofs.ByTurns.{inside_by, turn_of}
+use Rattle.free_run.proofs.ByTurns.{inside_by}
 use Rattle.free_run.proofs.OneTurn.{taken_by}
 use Rattle.free_run.proofs.Parts.{each_here, part_on_record}
 
@@ -27,15 +29,6 @@ use Rattle.free_run.proofs.Parts.{each_here, part_on_record}
 
 pub same_terms : (p : Plain) → SameTerms p p
 same_terms p = record { image = refl; harts = refl; limit = refl; log_limit = refl; first = refl }
-
-pub terms_then : (p m q : Plain) → SameTerms p m → SameTerms m q → SameTerms p q
-terms_then p m q a b = record {
-  image = b.image ∙ a.image;
-  harts = b.harts ∙ a.harts;
-  limit = b.limit ∙ a.limit;
-  log_limit = b.log_limit ∙ a.log_limit;
-  first = b.first ∙ a.first;
-}
 
 pub abandoned_terms : (p q : Plain) → q ≡ abandoned_in p → SameTerms p q
 abandoned_terms p q e = subst (SameTerms p) (sym e) (record { image = refl; harts = refl; limit = refl; log_limit = refl; first = refl })
@@ -98,7 +91,7 @@ may_lead p m r after until holds later part had =
 
 pub goes_then : (p m q : Plain) (h : ℕ) (r after : Run) → number_of r ≡ h → GoesOn p m h r → GoesOn m q (number_of r) after → GoesOn p q h after
 goes_then p m q h r after number a b = record {
-  terms = terms_then p m q a.terms b.terms;
+  terms = same_then p m q a.terms b.terms;
   part = subst (λ k. IsPart q k after) number b.part;
   runs = λ g x there other part.
       b.runs g x (let e = a.terms.harts in omega (arith, there, e)) (λ e. other (e ∙ number)) (a.runs g x there other part);

@@ -9,15 +9,16 @@ use Rattle.run_model.specs.Run.{Run}
 use Rattle.turn_table.specs.declared.table.Pass.{Pass}
 use Rattle.turn_table.specs.declared.table.TurnTable.{TurnTable}
 use Rattle.turn_table.specs.Passes as passes
-use Rattle.turn_table.specs.Passes.{IsPassOf, IsIdle, hart_of}
+use Rattle.turn_table.specs.Passes.{hart_of}
 use Rattle.crew_core.specs.declared.order.Order.{Order}
 use Rattle.crew_core.specs.declared.order.Order.TheVariants.{Go, Hold, Rest}
 use Rattle.crew_core.specs.Orders.{told}
 use Rattle.crew_parts.specs.Boards.{Plain}
 use Rattle.crew_parts.specs.Parts.{Part, part_of, until_by}
 use Rattle.free_run.specs.Parts.{IsOnRecord, MayMoveTo}
-use Rattle.free_run.specs.RecordLegs.{HasGoneTo, HasNoTurn, HasTurnOnce}
+use Rattle.free_run.specs.RecordLegs.{HasLed, WasRefused}
 use Rattle.free_run.specs.Workers.{AreOfOneBoard, IsReady, HasWorked}
+use Rattle.free_run.specs.declared.legs.Led.{Led}
 use Rattle.free_run.specs.declared.worker.Job.{Job}
 
 same_board : (x : Part) → AreOfOneBoard x x
@@ -41,62 +42,59 @@ may_move_told o r (Go to) goes here = goes to refl
 may_move_told o r (Hold page other) goes here = here
 may_move_told o r Rest goes here = here
 
-pub after_turn : (t : TurnTable Plain Part) (p q : Pass Plain Part) (j k : Job) (until : ℕ) (order : Order) (over : Bool) → j.refused ≡ false → k.refused
-    ≡ j.refused
-    → k.until ≡ until_by k.run.count (Some (told order)) → IsPassOf t q → IsIdle q → hart_of q ≡ hart_of p
-    → HasTurnOnce p q j.run k.run until (told order) over → IsOnRecord (passes.part_of q) k.run
-    → ((to : ℕ) → order ≡ Go to → MayMoveTo (passes.part_of q) k.run to) → MayMoveTo (passes.part_of q) k.run k.run.count → HasWorked t p q k
-after_turn t p q j k until order over fresh same far table idle hart had on goes here = record {
+pub after_turn : (t : TurnTable Plain Part) (p q : Pass Plain Part) (j k : Job) (until : ℕ) (led : Led) → j.refused ≡ false → k.refused ≡ j.refused
+    → k.until ≡ until_by k.run.count (Some (told led.order)) → HasLed t p q j.run k.run until led → HasWorked t p q k
+after_turn t p q j k until led fresh same far is = record {
   ready = record {
-    table = table;
-    idle = idle;
+    table = is.table;
+    idle = is.idle;
     stands = record {
-      on_record = λ e. (on, subst (MayMoveTo (passes.part_of q) k.run) (sym far) (may_move_told (passes.part_of q) k.run order goes here));
+      on_record = λ e.
+          (is.part, subst (MayMoveTo (passes.part_of q) k.run) (sym far) (may_move_told (passes.part_of q) k.run led.order is.go is.here));
       ahead = λ e. absurd (true≢false (sym e ∙ same ∙ fresh));
     };
   };
   continues = record {
-    hart = hart;
-    before = part_of had.taken (hart_of p);
-    after = part_of had.given (hart_of p);
-    was = had.was;
-    is = had.is;
+    hart = is.hart;
+    before = part_of is.turn.taken (hart_of p);
+    after = part_of is.turn.given (hart_of p);
+    was = is.turn.was;
+    is = is.turn.is;
     terms = record {
-      image = had.had.terms.image;
-      harts = had.had.terms.harts;
-      limit = had.had.terms.limit;
-      log_limit = had.had.terms.log_limit;
-      first = had.had.terms.first;
+      image = is.turn.had.terms.image;
+      harts = is.turn.had.terms.harts;
+      limit = is.turn.had.terms.limit;
+      log_limit = is.turn.had.terms.log_limit;
+      first = is.turn.had.terms.first;
     };
   };
 }
 
-pub after_refusal : (t : TurnTable Plain Part) (p q : Pass Plain Part) (j k : Job) → IsReady t p j → j.refused ≡ false → k.refused ≡ true → IsPassOf t q
-    → IsIdle q
-    → hart_of q ≡ hart_of p → HasNoTurn p q → HasGoneTo j.until j.run k.run → HasWorked t p q k
-after_refusal t p q j k ready fresh refused table idle hart none gone =
+pub after_refusal : (t : TurnTable Plain Part) (p q : Pass Plain Part) (j k : Job) → IsReady t p j → j.refused ≡ false → k.refused ≡ true
+    → WasRefused t p q j.run k.run j.until → HasWorked t p q k
+after_refusal t p q j k ready fresh refused is =
     let on = ready.stands.on_record fresh in
     record {
       ready = record {
-        table = table;
-        idle = idle;
+        table = is.table;
+        idle = is.idle;
         stands = record {
           on_record = λ e. absurd (true≢false (sym refused ∙ e));
           ahead = λ e. (
             j.run,
             j.until,
-            subst (λ o. IsOnRecord o j.run) (sym none.part) on.0,
-            subst (λ o. MayMoveTo o j.run j.until) (sym none.part) on.1,
-            gone,
+            subst (λ o. IsOnRecord o j.run) (sym is.none.part) on.0,
+            subst (λ o. MayMoveTo o j.run j.until) (sym is.none.part) on.1,
+            is.leg,
           );
         };
       };
       continues = record {
-        hart = hart;
+        hart = is.hart;
         before = on.0.part;
         after = on.0.part;
         was = on.0.is;
-        is = none.part ∙ on.0.is;
+        is = is.none.part ∙ on.0.is;
         terms = same_board on.0.part;
       };
     }

@@ -48,7 +48,7 @@ pub record HasWorked (t : TurnTable Plain Part) (old new : Pass Plain Part) (j :
   pub continues : Continues old new
 
 -- what is left of that once pass and run are apart: the pass is this table's, doesn't hold the board, and continues
-pub record HasLed (t : TurnTable Plain Part) (old new : Pass Plain Part) : Type 0 where
+pub record IsBack (t : TurnTable Plain Part) (old new : Pass Plain Part) : Type 0 where
   pub table : IsPassOf t new
   pub idle : IsIdle new
   pub continues : Continues old new

@@ -55,7 +55,7 @@ impl<C: Console, K: Clock> Parted for RecordBoard<C, K> {
 }
 
 impl<C: Console, K: Clock> RecordBoard<C, K> {
-    ghost use Rattle.std.specs.Prelude.{ℕ, ◌≡◌, OnErr, IfOk};
+    ghost use Rattle.std.specs.Prelude.{ℕ, ◌≡◌, length, OnErr, IfOk};
     ghost use Rattle.run_model.specs.Run.{Run};
     ghost use Rattle.crew_parts.specs.Boards.{IsBoardOf, is_over_in};
     ghost use Rattle.crew_parts.specs.Parts.{number_of, IsPartMoved};
@@ -87,6 +87,13 @@ impl<C: Console, K: Clock> RecordBoard<C, K> {
         ensures holds { IsBoardOf self.now }
     {
         self.board.over()
+    }
+
+    /// How many turns are in the list of turns. A turn that isn't in it changed nothing.
+    pub(crate) fn rows(&self) -> usize
+        ensures { result ≡ length self.now.turns }
+    {
+        self.board.rows()
     }
 
     /// A turn of the run's hart, or none for want of memory: then the board is abandoned.

@@ -10,9 +10,10 @@ ghost use Rattle.crew_parts.specs.Parts.{AreParts};
 ghost use Rattle.recorder.specs.Manned.{HasGiven};
 ghost use Rattle.free_run.specs.Parts.{IsOnRecord};
 ghost use Rattle.free_run.specs.Recordings.{HaveRun, RecordsFreely};
-ghost use Rattle.free_run.specs.Workers.{HasLed, IsReady, first_job};
+ghost use Rattle.free_run.specs.Workers.{IsBack, IsReady, first_job};
 
 use crate::board::RecordBoard;
+use crate::events::EventCount;
 use crate::pairs::{pair, unpair};
 use crate::rest::turn_until_over;
 use crate::workers::{Worker, run_list};
@@ -62,14 +63,15 @@ fn run_all<T: Threads + Wait + Sync, C: Console, K: Clock, G: Gate>(
     requires empty { (rooms.workers.items ≡ []) × (rooms.mine.items ≡ []) }
     requires none { (vec_len rooms.workers ≡ 0) × (vec_len rooms.mine ≡ 0) }
     requires room { (vec_len runs.old ≤ vec_capacity rooms.workers) × (vec_len runs.old ≤ vec_capacity rooms.mine) }
-    ensures led { AllZip (HasLed table.now) passes.old.items passes.new.items }
+    ensures led { AllZip (IsBack table.now) passes.old.items passes.new.items }
     ensures count { (vec_len passes.new ≡ vec_len passes.old) × (vec_len runs.new ≡ vec_len runs.old) }
     ensures runs { result ≡ false
         → AllZip (λ p r. IsOnRecord (part_of p) r) passes.new.items runs.new.items }
 {
     let Rooms { workers, mine } = rooms;
     let workers = pair(passes, runs, workers);
-    let (workers, _mine) = run_list(rt, alloc, table, gate, workers, mine);
+    let events = EventCount::new();
+    let (workers, _mine) = run_list(rt, alloc, table, gate, &events, workers, mine);
     unpair(workers, passes, runs)
 }
 

@@ -68,6 +68,7 @@ pub(crate) fn unpair<C: Console, K: Clock>(
     ensures room { (vec_capacity passes.old ≤ vec_capacity passes.new)
         × (vec_capacity runs.old ≤ vec_capacity runs.new) }
     ensures refused { result ≡ false → All (λ w. w.1.refused ≡ false) workers.items }
+    ensures whole { All (λ w. w.1.refused ≡ false) workers.items → result ≡ false }
 {
     let Some(worker) = workers.pop() else {
         return false;

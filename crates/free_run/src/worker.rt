@@ -6,14 +6,15 @@ ghost use Rattle.crew_parts.specs.Parts.{until_by};
 ghost use Rattle.free_run.specs.Workers.{HasWorked, IsReady};
 
 use crate::board::RecordBoard;
-use crate::legs::{Led, record_leg};
+use crate::events::EventCount;
+use crate::legs::{Led, leg_and_turn};
+use crate::next::Next;
 use crew_core::Order;
 use hart_run::HartRun;
 use outside::{Clock, Console, Gate};
 use shared_types::NoMemory;
 use std::alloc::Global;
 use std::sync::Wait;
-use std::thread::yield_now;
 use turn_table::{Pass, TurnTable};
 
 /// A hart's run, and what its worker knows of it between its turns.
@@ -38,69 +39,59 @@ fn until_of(order: Order, count: u64) -> u64
     }
 }
 
-/// Whether a worker ends that was told this at its turn.
-fn is_last(order: Order, over: bool) -> bool {
-    over && matches!(order, Order::Rest)
-}
-
-/// How often a worker whose hart can't move lets other threads go first, before it comes to the board again.
-const PAUSES: u32 = 32;
-
-/// Lets other threads go first, where a hart was told to stay where it is.
-fn stand_back(order: Order) {
-    if matches!(order, Order::Go { .. }) {
-        return;
-    }
-    for _ in 0..PAUSES {
-        yield_now();
+/// What a worker does that was told this at its turn. One whose hart is at the limit stays until the board is over, so
+/// that it gives its pages up where others want them.
+fn next_of(order: Order, over: bool) -> Next {
+    match order {
+        Order::Go { .. } => Next::Moves,
+        Order::Rest if over => Next::Ends,
+        Order::Hold { .. } | Order::Rest => Next::Waits,
     }
 }
 
-/// One leg and one turn. True where there is no more to do, or memory was refused.
+/// One leg and one turn. What it changed is an event, and that the board is over or memory was refused.
 pub(crate) fn step<R: Wait, C: Console, K: Clock, G: Gate>(
     wait: &R,
     alloc: Global,
     table: &TurnTable<RecordBoard<C, K>>,
     gate: &G,
+    events: &EventCount,
     pass: &mut Pass<RecordBoard<C, K>>,
     job: &mut Job,
-) -> bool
+) -> Next
     requires { IsReady table.now pass.old job.old }
     ensures { HasWorked table.now pass.old pass.new job.new }
 {
     let refused = job.refused;
     if refused {
-        return true;
+        return Next::Ends;
     }
-    match record_leg(
-        wait,
-        alloc,
-        table,
-        pass,
-        &mut job.run,
-        job.until,
-        gate,
-        job.legs,
-    ) {
-        Ok(Led { order, over }) => {
-            stand_back(order);
+    let (until, leg) = (job.until, job.legs);
+    match leg_and_turn(wait, alloc, table, pass, &mut job.run, until, gate, leg) {
+        Ok((Led { order, over }, changed)) => {
+            if changed || over {
+                events.advance();
+            }
             job.until = until_of(order, job.run.count());
-            job.legs = job.legs.saturating_add(1);
-            is_last(order, over)
+            job.legs = leg.saturating_add(1);
+            next_of(order, over)
         }
         Err(NoMemory) => {
+            events.advance();
             job.refused = true;
-            true
+            Next::Ends
         }
     }
 }
 
-/// Legs and turns until there is no more to do.
+/// Legs and turns until there is no more to do. The events are read before each leg, and not behind the turn: so none
+/// is missed that is behind it, and a hart whose turn changed anything has another one before it waits.
 pub(crate) fn work<R: Wait, C: Console, K: Clock, G: Gate>(
     wait: &R,
     alloc: Global,
     table: &TurnTable<RecordBoard<C, K>>,
     gate: &G,
+    events: &EventCount,
     pass: &mut Pass<RecordBoard<C, K>>,
     job: &mut Job,
 )
@@ -108,8 +99,11 @@ pub(crate) fn work<R: Wait, C: Console, K: Clock, G: Gate>(
     ensures { HasWorked table.now pass.old pass.new job.new }
 {
     for _ in wait.forever() {
-        if step(wait, alloc, table, gate, pass, job) {
-            return;
+        let read = events.read();
+        match step(wait, alloc, table, gate, events, pass, job) {
+            Next::Moves => {}
+            Next::Waits => events.wait_beyond(wait, read),
+            Next::Ends => return,
         }
     }
     unreachable!()

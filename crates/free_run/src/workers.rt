@@ -1,11 +1,13 @@
 //! A thread for each hart, and this thread for those that none can be started for.
 
-ghost use Rattle.std.specs.Prelude.{◌≡◌, ◌<◌, ◌≤◌, ◌+◌, ◌++◌, [], ◌∷◌, All, vec_len, vec_capacity};
+ghost use Rattle.std.specs.Prelude.{◌≡◌, true, ◌<◌, ◌≤◌, ◌+◌, ◌++◌, [], ◌∷◌, All, vec_len, vec_capacity};
 ghost use Rattle.std.specs.List.{AllZip};
 ghost use Rattle.std.specs.Thread.{IsSend, IsSync};
 ghost use Rattle.free_run.specs.Workers.{HasWorked, IsReady};
 
 use crate::board::RecordBoard;
+use crate::events::EventCount;
+use crate::next::Next;
 use crate::worker::{Job, step, work};
 use outside::{Clock, Console, Gate};
 use std::alloc::Global;
@@ -30,23 +32,24 @@ impl<C: Console, K: Clock> Promise<Worker<C, K>> for Works<C, K> {
     ghost kept_by = { λ p w. HasWorked p.table.value p.pass.value w.0 w.1 };
 }
 
-/// One leg and one turn of each worker of this thread. True where there is no more to do.
+/// One leg and one turn of each worker of this thread.
 fn step_each<R: Wait, C: Console, K: Clock, G: Gate>(
     wait: &R,
     alloc: Global,
     table: &TurnTable<RecordBoard<C, K>>,
     gate: &G,
+    events: &EventCount,
     mine: &mut [Worker<C, K>],
-) -> bool
+) -> Next
     requires { All (λ w. IsReady table.now w.0 w.1) mine.old }
     ensures { AllZip (λ a b. HasWorked table.now a.0 b.0 b.1) mine.old mine.new }
 {
-    let mut ended = true;
+    let mut next = Next::Ends;
     for i in 0..mine.len() {
         let (pass, job) = &mut mine[i];
-        ended = step(wait, alloc, table, gate, pass, job) && ended;
+        next = next.with(step(wait, alloc, table, gate, events, pass, job));
     }
-    ended
+    next
 }
 
 /// The workers of this thread, one leg after another, until there is no more to do.
@@ -55,21 +58,25 @@ fn work_here<R: Wait, C: Console, K: Clock, G: Gate>(
     alloc: Global,
     table: &TurnTable<RecordBoard<C, K>>,
     gate: &G,
+    events: &EventCount,
     mine: &mut [Worker<C, K>],
 )
     requires { All (λ w. IsReady table.now w.0 w.1) mine.old }
     ensures { AllZip (λ a b. HasWorked table.now a.0 b.0 b.1) mine.old mine.new }
 {
     for _ in wait.forever() {
-        if step_each(wait, alloc, table, gate, mine) {
-            return;
+        let read = events.read();
+        match step_each(wait, alloc, table, gate, events, mine) {
+            Next::Moves => {}
+            Next::Waits => events.wait_beyond(wait, read),
+            Next::Ends => return,
         }
     }
     unreachable!()
 }
 
 /// Adds one for which there is room.
-pub(crate) fn put<X: Drop>(list: &mut Vec<X>, x: X)
+pub fn put<X: Drop>(list: &mut Vec<X>, x: X)
     requires { vec_len list.old < vec_capacity list.old }
     ensures items { list.new.items ≡ list.old.items ++ x ∷ [] }
     ensures count { vec_len list.new ≡ vec_len list.old + 1 }
@@ -84,17 +91,19 @@ fn run_worker<R: Wait, C: Console, K: Clock, G: Gate>(
     alloc: Global,
     table: &TurnTable<RecordBoard<C, K>>,
     gate: &G,
-    refused: bool,
+    events: &EventCount,
+    no_thread: bool,
     worker: Worker<C, K>,
 ) -> Worker<C, K>
     requires { IsReady table.now worker.0 worker.1 }
-    ensures { HasWorked table.now worker.0 result.0 result.1 }
+    ensures worked { HasWorked table.now worker.0 result.0 result.1 }
+    ensures back { no_thread ≡ true → result ≡ worker }
 {
-    if refused {
+    if no_thread {
         return worker;
     }
     let (mut pass, mut job) = worker;
-    work(wait, alloc, table, gate, &mut pass, &mut job);
+    work(wait, alloc, table, gate, events, &mut pass, &mut job);
     (pass, job)
 }
 
@@ -106,6 +115,7 @@ pub(crate) fn run_list<T: Threads + Wait + Sync, C: Console, K: Clock, G: Gate>(
     alloc: Global,
     table: &TurnTable<RecordBoard<C, K>>,
     gate: &G,
+    events: &EventCount,
     mut workers: Vec<Worker<C, K>>,
     mut mine: Vec<Worker<C, K>>,
 ) -> (Vec<Worker<C, K>>, Vec<Worker<C, K>>)
@@ -119,11 +129,11 @@ pub(crate) fn run_list<T: Threads + Wait + Sync, C: Console, K: Clock, G: Gate>(
     ensures room { (vec_capacity workers ≤ vec_capacity result.0) × (vec_capacity mine ≤ vec_capacity result.1) }
 {
     let Some(worker) = workers.pop() else {
-        work_here(rt, alloc, table, gate, mine.as_mut_slice());
+        work_here(rt, alloc, table, gate, events, mine.as_mut_slice());
         return (workers, mine);
     };
-    let refused = AtomicBool::new(false);
-    let refused = &refused;
+    let no_thread = AtomicBool::new(false);
+    let no_thread = &no_thread;
     thread::scope(
         thread::scope_env(),
         rt,
@@ -150,19 +160,23 @@ pub(crate) fn run_list<T: Threads + Wait + Sync, C: Console, K: Clock, G: Gate>(
                 requires { IsReady table.now worker.0 worker.1 }
                 ensures { HasWorked table.entry.now worker.0 result.0 result.1 }
             {
-                let refused = refused.load(Ordering::SeqCst);
-                run_worker(rt, alloc, table, gate, refused, worker)
+                let no_thread = no_thread.load(Ordering::SeqCst);
+                run_worker(rt, alloc, table, gate, events, no_thread, worker)
             };
             match scope.spawn_with(promise, run) {
                 Ok(child) => {
-                    let (mut workers, mine) = run_list(rt, alloc, table, gate, workers, mine);
+                    let (mut workers, mine) = run_list(
+                        rt, alloc, table, gate, events, workers, mine,
+                    );
                     put(&mut workers, child.join(rt));
                     (workers, mine)
                 }
                 Err(back) => {
-                    refused.store(true, Ordering::SeqCst);
+                    no_thread.store(true, Ordering::SeqCst);
                     put(&mut mine, (back.value)());
-                    let (mut workers, mut mine) = run_list(rt, alloc, table, gate, workers, mine);
+                    let (mut workers, mut mine) = run_list(
+                        rt, alloc, table, gate, events, workers, mine,
+                    );
                     let Some(worker) = mine.pop() else {
                         unreachable!()
                     };

@@ -1,6 +1,5 @@
-use Rattle.std.proofs.Common.{◌≡◌, ℕ, ◌<◌, length, ap, sym, subst, ◌∙◌, arith}
+use Rattle.std.proofs.Common.{length, ap, sym, subst, ◌∙◌, arith}
 use Rattle.std.specs.Prelude.{Contains}
-use Rattle.log_entry.specs.declared.log.Log.{Log}
 use Rattle.replay_parts.specs.Boards.{Plain}
 use Rattle.replay_parts.specs.Laws.{Reaches}
 use Rattle.replay_core.specs.Turns.{AreParts}

@@ -11,8 +11,9 @@ use Rattle.free_run.proofs.workers.+running.Lts-fn-run_list-scope.{arg-2-2}
 use Rattle.std.proofs.Crossing.{crosses}
 use Rattle.std.proofs.Common.{[], ap, ◌∙◌, arith, rules}
 use Rattle.turn_table.proofs.table.Pass.TheSendSync as pass
+use Rattle.free_run.proofs.events.EventCount.TheSendSync as events
 use Rattle.free_run.proofs.worker.Job.TheSendSync as job
-use Rattle.free_run.proofs.Sent.{captures_send, pair_send, record_board_send}
+use Rattle.free_run.proofs.Sent.{more_captures_send, pair_send, record_board_send}
 use Rattle.free_run.proofs.Working.{added, all_ready_with, promised, ready_apart, taken_back, worked_on}
 use Rattle.free_run.proofs.workers.+running.Goals as goal
 
@@ -24,9 +25,10 @@ scope-spawn_with-requires-send-F g t c κs within =
     let board = record_board_send C K g.C.Console g.K.Clock c.requires.sync.2 c.requires.sync.3 in
     let parts = ghosts C K g.C.Console no_dict g.K.Clock no_dict no_dict no_dict in
     let captured =
-    captures_send [] _ _ (shr_send (named 6) κs.1.1.1.1.1.1.0 _ flag.the_sync) (shr_send (named 7) κs.1.1.1.1.1.1.1.0 _ c.requires.sync.0) _ _ _ _
+    more_captures_send [] _ _ (shr_send (named 6) κs.1.1.1.1.1.1.0 _ flag.the_sync) (shr_send (named 7) κs.1.1.1.1.1.1.1.0 _ c.requires.sync.0) _ _ _ _ _
     heap.the_send (shr_send (named 8) κs.1.1.1.1.1.1.1.1.0 _ (table.the_sync B RecordPart.the_row parts board))
-    (shr_send (named 9) κs.1.1.1.1.1.1.1.1.1.0 _ c.requires.sync.1) (pair_send [] _ _ (pass.the_send B RecordPart.the_row board) job.the_send)
+    (shr_send (named 9) κs.1.1.1.1.1.1.1.1.1.0 _ c.requires.sync.1) (shr_send (named 10) κs.1.1.1.1.1.1.1.1.1.1.0 _ events.the_sync)
+    (pair_send [] _ _ (pass.the_send B RecordPart.the_row board) job.the_send)
     in
     param_send 2
     (arg-2-2 g.row.T g.row.C g.row.K g.row.G g.T.laws g.C.laws g.K.laws g.G.laws g.T.Threads g.T.Threads-dict g.T.Wait g.T.Wait-dict g.C.Console
@@ -41,8 +43,8 @@ scope-run_list-workers-requires-in-Err-clause-mine g t c κs within =
     let table = c.captures.table.now in
     let f = c.in-Err.back.value in
     let kept =
-    promised table f.3.now c.captures.worker.0 f.5.0 c.run.result.0 c.run.result.1 (ap (λ x. x.3.now) c.in-Err.ensures.err)
-    (ap (λ x. x.5.0) c.in-Err.ensures.err) c.run.ensures in
+    promised table f.3.now c.captures.worker.0 f.6.0 c.run.result.0 c.run.result.1 (ap (λ x. x.3.now) c.in-Err.ensures.err)
+    (ap (λ x. x.6.0) c.in-Err.ensures.err) c.run.ensures in
     all_ready_with table c.captures.mine.items c.put-in-Err.new.list.items c.run.result c.requires.mine kept.ready c.put-in-Err.ensures.items
 
 pub scope-returns-in-Ok : goal.scope-returns-in-Ok
@@ -72,8 +74,8 @@ scope-returns-in-Some g t c =
     taken_back table c.captures.mine.items c.put-in-Err.new.list.items r.result.1.items c.pop.new.self.items c.run.result c.in-Some.worker
     r.ensures.mine c.put-in-Err.ensures.items c.in-Some.ensures.items in
     let first =
-    promised table f.3.now c.captures.worker.0 f.5.0 c.run.result.0 c.run.result.1 (ap (λ x. x.3.now) c.in-Err.ensures.err)
-    (ap (λ x. x.5.0) c.in-Err.ensures.err) c.run.ensures in
+    promised table f.3.now c.captures.worker.0 f.6.0 c.run.result.0 c.run.result.1 (ap (λ x. x.3.now) c.in-Err.ensures.err)
+    (ap (λ x. x.6.0) c.in-Err.ensures.err) c.run.ensures in
     let kept =
     worked_on table c.captures.worker.0 c.run.result.0 c.in-Some.worker.0 c.run.result.1 c.in-Some.worker.1 first back.1 in
     record {

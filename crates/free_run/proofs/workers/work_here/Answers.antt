@@ -7,8 +7,15 @@ loop-init g c = (tt, tt, all_not_yet c.args.table.now c.args.mine.now c.requires
 pub step_each-requires-after_bounds : goal.step_each-requires-after_bounds
 step_each-requires-after_bounds g c κs within = all_ready c.args.table.now c.args.mine.now c.loop.mine c.loop.invariant.2
 
-pub returns-then-step_each : goal.returns-then-step_each
-returns-then-step_each g c = all_worked_on c.args.table.now c.args.mine.now c.loop.mine c.step_each.new.mine c.loop.invariant.2 c.step_each.ensures
+pub returns-in-Ends : goal.returns-in-Ends
+returns-in-Ends g c = all_worked_on c.args.table.now c.args.mine.now c.loop.mine c.step_each.new.mine c.loop.invariant.2 c.step_each.ensures
+
+pub loop-preserved-in-Moves : goal.loop-preserved-in-Moves
+loop-preserved-in-Moves g c = (
+  tt,
+  tt,
+  all_worked_on c.args.table.now c.args.mine.now c.loop.mine c.step_each.new.mine c.loop.invariant.2 c.step_each.ensures,
+)
 
 pub loop-preserved : goal.loop-preserved
 loop-preserved g c = (tt, tt, all_worked_on c.args.table.now c.args.mine.now c.loop.mine c.step_each.new.mine c.loop.invariant.2 c.step_each.ensures)

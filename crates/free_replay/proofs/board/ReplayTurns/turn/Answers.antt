@@ -1,4 +1,4 @@
-use Rattle.std.proofs.Common.{◌≡◌, ◌<◌, ◌∙◌, refl, sym, ap, subst, arith, length, not}
+use Rattle.std.proofs.Common.{◌<◌, ◌∙◌, sym, ap, subst, arith, length, not}
 use Rattle.run_model.specs.Run.{number_of}
 use Rattle.replay_parts.specs.Boards.{Plain}
 use Rattle.replay_core.specs.Turns.{HasTurn, IsPartMoved, told}
@@ -34,7 +34,8 @@ invariant_of-self c =
     marks_behind b c.turn-pace.new.self c.args.run.now c.turn-pace.new.run c.number_of-hart.result c.turn-pace.result reached.0 reached.1 moved
     c.number_of-hart.ensures inside c.turn-pace.ensures.turned c.eq-same.result c.committed-before.result.0 c.committed.result.0
     c.committed-before.result.1 c.committed.result.1 c.self.inside.ended c.self.inside.still c.kept-still.result c.marked-self-inside.result
-    c.marked-self-inside-2.result (not c.goes_by.result) c.eq-same.ensures c.committed-before.ensures.place c.committed.ensures.place c.committed-before.ensures.count
+    c.marked-self-inside-2.result (not c.goes_by.result) c.eq-same.ensures c.committed-before.ensures.place c.committed.ensures.place
+        c.committed-before.ensures.count
     c.committed.ensures.count (ap not c.goes_by.ensures) c.self.invariant.0 c.self.invariant.1 c.kept-still.ensures c.marked-self-inside.ensures
     (subst (λ mark. IsMarkedAs c.number_of-hart.result mark c.self.inside.ended c.marked-self-inside-2.result) c.ends_by.ensures
     c.marked-self-inside-2.ensures)
