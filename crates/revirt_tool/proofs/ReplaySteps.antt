@@ -1,5 +1,5 @@
 -- What the steps of a replay come to together.
-use Rattle.std.proofs.Common.{ℕ, List, Ok, Err, inl, inr, sym, ◌∙◌, subst}
+use Rattle.std.proofs.Common.{ℕ, List, Result, Ok, Err, IfOk, inl, inr, refl, sym, ◌∙◌, subst}
 use Rattle.outside.specs.Causes.{Rose}
 use Rattle.outside.specs.Fetching.{IsPast}
 use Rattle.outside.specs.Seen.{SeenShelf, ToldBefore}
@@ -9,7 +9,7 @@ use Rattle.flat_machine.specs.declared.results.Final.{Final}
 use Rattle.revirt_tool.specs.Tasks.{ReplayWish}
 use Rattle.revirt_tool.specs.Files.{WasFetched, IsUntouched, longest}
 use Rattle.revirt_tool.specs.Listings.{LogAs}
-use Rattle.revirt_tool.specs.Replays.{IsImageOf, StartAs, OutcomeAs, KeepsReplayAs, ReplaysAs}
+use Rattle.revirt_tool.specs.Replays.{IsImageOf, IsReportable, StartAs, OutcomeAs, KeepsReplayAs, KeepsOutcomeAs, AreFetched, ReplaysAs}
 use Rattle.revirt_tool.specs.declared.ending.File.{File}
 use Rattle.revirt_tool.specs.declared.ending.File.TheVariants as files
 use Rattle.revirt_tool.specs.declared.ending.Ending.{Ending}
@@ -182,3 +182,25 @@ module _ (w : ReplayWish) (s m n t : SeenShelf) (log : Log) (image : Image) (end
   keeps (Disorderly rule hart entry) kept = absurd kept
   keeps (Diverged hart count rule) kept = absurd kept
   keeps (Listed listing orderly) kept = absurd kept
+
+-- what can be reported of what a replay came to
+pub reportable : (log : Log) (image : Image) (outcome : Result Final Ending) → OutcomeAs log image outcome → IfOk outcome IsReportable
+reportable log image (Ok end) reached = reached.1
+reportable log image (Err ending) reached = tt
+
+-- what was fetched, what its replay came to, and what keeping that came to
+pub replayed_so : (w : ReplayWish) (s n t : SeenShelf) (log : Log) (image : Image) (outcome : Result Final Ending) → ToldBefore s.tells n.tells
+    → AreFetched w s n log image → OutcomeAs log image outcome → ToldBefore n.tells t.tells → (ending : Ending) → KeepsOutcomeAs w outcome n t ending
+    → ReplaysAs w s t ending
+replayed_so w s n t log image outcome told are reached tells ending kept = by outcome reached kept where
+  read : LogAs w.log s s (Ok log)
+  read = (record { held = λ told name. refl; faults = refl }, are.log_read)
+
+  start : StartAs w.image log s n (Ok image)
+  start = (are.same, are.image_read, are.start)
+
+  by : (outcome : Result Final Ending) → OutcomeAs log image outcome → KeepsOutcomeAs w outcome n t ending → ReplaysAs w s t ending
+  by (Ok end) reached kept = keeps w s s n t log image end read told start reached tells ending kept
+  by (Err ends) reached kept =
+      subst (λ z. ReplaysAs w s z ending) (sym kept.1)
+      (subst (ReplaysAs w s n) (sym kept.0) (outcome_fails w s s n log read told image ends start reached))

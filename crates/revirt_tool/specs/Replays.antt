@@ -114,6 +114,11 @@ KeepsReplayAs w end s t NoMemory = IsUntouched s t
 KeepsReplayAs w end s t ShelfFault = FailsToDump w s t
 KeepsReplayAs w end s t ending = ⊥
 
+-- what comes of an outcome: an end is kept, and an ending stays as it is
+abbrev pub KeepsOutcomeAs : ReplayWish → Result Final Ending → SeenShelf → SeenShelf → Ending → Type 0
+KeepsOutcomeAs w (Ok end) s t ending = KeepsReplayAs w end s t ending
+KeepsOutcomeAs w (Err refused) s t ending = (ending ≡ refused) × (t ≡ s)
+
 -- the log was read, of which this holds
 abbrev pub IsLogFor : ReplayWish → SeenShelf → (Log → Type 0) → Type 0
 IsLogFor w s P = (log : Log) × IsLogOf w.log s log × P log
@@ -142,3 +147,15 @@ ReplaysAs w s t NoMemory = IsUntouched s t
 ReplaysAs w s t ShelfFault = FailsToFetch s t ⊎ (AreReadFor w s t (λ log image. (end : Final) × EndsAt log image end) × FailsToDump w s t)
 ReplaysAs w s t (Kept text fault) = AreReadFor w s t (λ log image. KeepsReplay w text.items s t log image) × (fault ≡ false)
 ReplaysAs w s t ending = ⊥
+
+-- the log and the image that a replay is asked for were read, and belong together; nothing was kept
+pub record AreFetched (w : ReplayWish) (s t : SeenShelf) (log : Log) (image : Image) : Type 0 where
+  pub same : IsUntouched s t
+  pub log_read : IsLogOf w.log s log
+  pub image_read : IsImageOf w.image s t log image
+  pub start : start_digest image ≡ log.image
+
+-- what fetching them comes to
+abbrev pub FilesAs : ReplayWish → SeenShelf → SeenShelf → Result (Log × Image) Ending → Type 0
+FilesAs w s t (Ok files) = AreFetched w s t files.0 files.1
+FilesAs w s t (Err ending) = ReplaysAs w s t ending

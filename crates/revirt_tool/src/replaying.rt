@@ -6,7 +6,8 @@ ghost use Rattle.log_entry.specs.Range.{in_range};
 ghost use Rattle.outside.specs.Seen.{ToldBefore};
 ghost use Rattle.replay_core.specs.Ends.{IsOutcomeOf};
 ghost use Rattle.revirt_tool.specs.Tasks.{replay_by};
-ghost use Rattle.revirt_tool.specs.Replays.{StartAs, OrderAs, OutcomeAs, IsReportable, KeepsReplayAs, ReplaysAs, told_of};
+ghost use Rattle.revirt_tool.specs.Replays.{StartAs, OrderAs, OutcomeAs, IsReportable, KeepsReplayAs, KeepsOutcomeAs};
+ghost use Rattle.revirt_tool.specs.Replays.{FilesAs, ReplaysAs, told_of};
 
 use crate::ending::{Ended, Ending, File, without_run};
 use crate::fetching::{file_for, log_for};
@@ -187,6 +188,48 @@ fn keep_end<S: Shelf>(alloc: Global, request: &ReplayRequest, end: &Final, shelf
     }
 }
 
+/// Keeps what a replay came to.
+fn keep_outcome<S: Shelf>(
+    alloc: Global,
+    request: &ReplayRequest,
+    outcome: Result<Final, Ending>,
+    shelf: &mut S,
+) -> Ending
+    requires writing { (S.seen shelf.old).writing ≡ false }
+    requires end { IfOk outcome IsReportable }
+    ensures writing { (S.seen shelf.new).writing ≡ false }
+    ensures tells { ToldBefore (S.seen shelf.old).tells (S.seen shelf.new).tells }
+    ensures keeps { KeepsOutcomeAs (replay_by request.now) outcome (S.seen shelf.old) (S.seen shelf.new) result }
+{
+    match outcome {
+        Ok(end) => keep_end(alloc, request, &end, shelf),
+        Err(ending) => ending,
+    }
+}
+
+/// The log and the image that a replay is asked for.
+fn files_for<S: Shelf>(
+    alloc: Global,
+    request: &ReplayRequest,
+    shelf: &mut S,
+) -> Result<(Log, Image), Ending>
+    requires log { S.has shelf.old request.now.log.now }
+    requires image { S.has shelf.old request.now.image.now }
+    ensures writing { (S.seen shelf.new).writing ≡ (S.seen shelf.old).writing }
+    ensures tells { ToldBefore (S.seen shelf.old).tells (S.seen shelf.new).tells }
+    ensures files { FilesAs (replay_by request.now) (S.seen shelf.old) (S.seen shelf.new) result }
+{
+    let log = match log_for(alloc, request.log, shelf) {
+        Ok(log) => log,
+        Err(ending) => return Err(ending),
+    };
+    let image = match start_for(alloc, request.image, &log, shelf) {
+        Ok(image) => image,
+        Err(ending) => return Err(ending),
+    };
+    Ok((log, image))
+}
+
 fn replayed<T: Threads + Sync, S: Shelf, G: Gate>(
     rt: &T,
     alloc: Global,
@@ -200,16 +243,11 @@ fn replayed<T: Threads + Sync, S: Shelf, G: Gate>(
     ensures writing { (S.seen shelf.new).writing ≡ false }
     ensures replays { ReplaysAs (replay_by request.now) (S.seen shelf.old) (S.seen shelf.new) result }
 {
-    let log = match log_for(alloc, request.log, shelf) {
-        Ok(log) => log,
-        Err(ending) => return ending,
-    };
-    let image = match start_for(alloc, request.image, &log, shelf) {
-        Ok(image) => image,
-        Err(ending) => return ending,
-    };
-    match outcome_of(rt, alloc, log, &image, request.way, gate) {
-        Ok(end) => keep_end(alloc, request, &end, shelf),
+    match files_for(alloc, request, shelf) {
+        Ok((log, image)) => {
+            let outcome = outcome_of(rt, alloc, log, &image, request.way, gate);
+            keep_outcome(alloc, request, outcome, shelf)
+        }
         Err(ending) => ending,
     }
 }
@@ -248,17 +286,12 @@ fn freely_replayed<T: Threads + Wait + Sync, S: Shelf, G: Gate>(
     ensures writing { (S.seen shelf.new).writing ≡ false }
     ensures replays { ReplaysAs (replay_by request.now) (S.seen shelf.old) (S.seen shelf.new) result }
 {
-    let log = match log_for(alloc, request.log, shelf) {
-        Ok(log) => log,
-        Err(ending) => return ending,
-    };
-    let started = match start_for(alloc, request.image, &log, shelf) {
-        Ok(image) => image,
-        Err(ending) => return ending,
-    };
-    match free_outcome_of(rt, alloc, log, &started, gate) {
-        Ok(end) => keep_end(alloc, request, &end, shelf),
-        Err(refused) => refused,
+    match files_for(alloc, request, shelf) {
+        Ok((log, image)) => {
+            let outcome = free_outcome_of(rt, alloc, log, &image, gate);
+            keep_outcome(alloc, request, outcome, shelf)
+        }
+        Err(ending) => ending,
     }
 }
 

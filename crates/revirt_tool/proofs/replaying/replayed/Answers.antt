@@ -1,19 +1,11 @@
 use Rattle.revirt_tool.specs.Tasks.{replay_by}
-use Rattle.revirt_tool.proofs.ReplaySteps.{start_fails, outcome_fails, keeps}
+use Rattle.revirt_tool.proofs.ReplaySteps.{replayed_so, reportable}
 use Rattle.revirt_tool.proofs.replaying.replayed.Goals as goal
 
-pub returns-in-Err-start_for-clause-replays : goal.returns-in-Err-start_for-clause-replays
-returns-in-Err-start_for-clause-replays g c =
-    start_fails (replay_by c.args.request.now) _ _ _ c.in-Ok.log c.in-Ok.ensures.log c.in-Err-start_for.ensures.tells
-    c.in-Err-start_for.ending c.in-Err-start_for.ensures.start
+pub keep_outcome-requires-clause-end : goal.keep_outcome-requires-clause-end
+keep_outcome-requires-clause-end g c = reportable _ _ c.outcome_of-outcome.result c.outcome_of-outcome.ensures
 
-pub returns-in-Ok-outcome_of-clause-replays : goal.returns-in-Ok-outcome_of-clause-replays
-returns-in-Ok-outcome_of-clause-replays g c =
-    keeps (replay_by c.args.request.now) _ _ _ _ c.in-Ok.log c.in-Ok-start_for.image c.in-Ok-outcome_of.end c.in-Ok.ensures.log
-    c.in-Ok-start_for.ensures.tells c.in-Ok-start_for.ensures.start c.in-Ok-outcome_of.ensures c.keep_end.ensures.tells c.keep_end.result
-    c.keep_end.ensures.keeps
-
-pub returns-clause-replays : goal.returns-clause-replays
-returns-clause-replays g c =
-    outcome_fails (replay_by c.args.request.now) _ _ _ c.in-Ok.log c.in-Ok.ensures.log c.in-Ok-start_for.ensures.tells c.in-Ok-start_for.image
-    c.in-Err-outcome_of.ending c.in-Ok-start_for.ensures.start c.in-Err-outcome_of.ensures
+pub returns-in-Ok-clause-replays : goal.returns-in-Ok-clause-replays
+returns-in-Ok-clause-replays g c =
+    replayed_so (replay_by c.args.request.now) _ _ _ _ _ c.outcome_of-outcome.result c.in-Ok.ensures.tells c.in-Ok.ensures.files c.outcome_of-outcome.ensures
+    c.keep_outcome.ensures.tells c.keep_outcome.result c.keep_outcome.ensures.keeps
