@@ -30,6 +30,7 @@ turns_send = search (sendable, inside_send) depth 20
 
 pub worker_send : IsSend Worker.the_row
 worker_send = recorded_send _ _ _ Worker.the_type.to_one
-    (struct_send (shape Worker.the_type)
-    (search (sendable, pass.the_field_send, turns_send) depth 20,
-        (search (sendable, hart_run.the_send) depth 20, (search sendable depth 20, (search sendable depth 20, tt)))))
+    (struct_send (shape Worker.the_type) (
+      search (sendable, pass.the_field_send, turns_send) depth 20,
+      (search (sendable, hart_run.the_send) depth 20, (search sendable depth 20, (search sendable depth 20, tt))),
+    ))

@@ -87,8 +87,16 @@ after_turn t v w until pace far led = record {
 
 continues_none : (t : TurnTable Plain Part) (p : Pass Plain Part) (r : Run) → IsReady t p r → Continues p p
 continues_none t p r ready =
-    record { hart = refl; before = ready.on_record.part; after = ready.on_record.part; was = ready.on_record.is; is = ready.on_record.is; log = refl; image =
-        refl }
+    record {
+      hart = refl;
+      before = ready.on_record.part;
+      after = ready.on_record.part;
+      was = ready.on_record.is;
+      is = ready.on_record.is;
+      log = refl;
+      image =
+          refl;
+    }
 
 continues_then : (p q s : Pass Plain Part) → Continues p q → Continues q s → Continues p s
 continues_then p q s a b =

@@ -32,7 +32,7 @@ scope-run_list-passes-requires-in-Err-clause-mine g t c κs within =
     let table = c.captures.table.now in
     let f = c.in-Err.back.value in
     let kept = promised table f.2.now c.captures.worker f.5 c.run.result (ap (λ x. x.2.now) c.in-Err.ensures.err) (ap (λ x. x.5) c.in-Err.ensures.err)
-        c.run.ensures in
+    c.run.ensures in
     all_ready_with table c.captures.mine.items c.put.new.list.items c.run.result c.requires.mine kept.ready c.put.ensures.items
 
 pub scope-returns-in-Ok : goal.scope-returns-in-Ok
@@ -40,10 +40,10 @@ scope-returns-in-Ok g t c =
     let table = c.captures.table.now in
     let promise = c.in-Ok.child.promise in
     let kept = promised table promise.table.value c.captures.worker promise.worker.value c.join.result
-        (ap (λ p. p.table.value) c.in-Ok.ensures.ok ∙ c.of.ensures) (ap (λ p. p.worker.value) c.in-Ok.ensures.ok ∙ c.of-2.ensures) c.join.ensures in
+    (ap (λ p. p.table.value) c.in-Ok.ensures.ok ∙ c.of.ensures) (ap (λ p. p.worker.value) c.in-Ok.ensures.ok ∙ c.of-2.ensures) c.join.ensures in
     let r = c.run_list-passes in
     let a = added table c.captures.passes.items c.captures.worker c.join.result r.result.0.items c.add.new.passes.items r.result.1.items c.add.new.runs.items
-        r.ensures.ready r.ensures.continued kept c.add.ensures.passes c.add.ensures.runs in
+    r.ensures.ready r.ensures.continued kept c.add.ensures.passes c.add.ensures.runs in
     record {
       ready = a.ready;
       continued = a.continued;
@@ -58,20 +58,26 @@ scope-returns-in-Some g t c =
     let f = c.in-Err.back.value in
     let r = c.run_list-passes-in-Err in
     let back = taken_back table c.captures.mine.items c.put.new.list.items r.result.2.items c.pop.new.self.items c.run.result c.in-Some.worker r.ensures.mine
-        c.put.ensures.items c.in-Some.ensures.items in
+    c.put.ensures.items c.in-Some.ensures.items in
     let first = promised table f.2.now c.captures.worker f.5 c.run.result (ap (λ x. x.2.now) c.in-Err.ensures.err) (ap (λ x. x.5) c.in-Err.ensures.err)
-        c.run.ensures in
+    c.run.ensures in
     let kept = worked_on table c.captures.worker c.run.result c.in-Some.worker first back.1 in
     let a = added table c.captures.passes.items c.captures.worker c.in-Some.worker r.result.0.items c.add-in-Err.new.passes.items r.result.1.items
-        c.add-in-Err.new.runs.items r.ensures.ready r.ensures.continued kept c.add-in-Err.ensures.passes c.add-in-Err.ensures.runs in
+    c.add-in-Err.new.runs.items r.ensures.ready r.ensures.continued kept c.add-in-Err.ensures.passes c.add-in-Err.ensures.runs in
     record {
       ready = a.ready;
       continued = a.continued;
       mine = back.0;
-      count = ((omega (arith, c.add-in-Err.ensures.count, r.ensures.count)), (omega (arith, c.add-in-Err.ensures.count, r.ensures.count)),
-          (omega (arith, r.ensures.count, c.put.ensures.count, c.in-Some.ensures.len)));
-      room = ((omega (arith, c.add-in-Err.ensures.room, r.ensures.room)), (omega (arith, c.add-in-Err.ensures.room, r.ensures.room)),
-          (omega (arith, r.ensures.room, c.put.ensures.room, c.in-Some.ensures.capacity)));
+      count = (
+        (omega (arith, c.add-in-Err.ensures.count, r.ensures.count)),
+        (omega (arith, c.add-in-Err.ensures.count, r.ensures.count)),
+        (omega (arith, r.ensures.count, c.put.ensures.count, c.in-Some.ensures.len)),
+      );
+      room = (
+        (omega (arith, c.add-in-Err.ensures.room, r.ensures.room)),
+        (omega (arith, c.add-in-Err.ensures.room, r.ensures.room)),
+        (omega (arith, r.ensures.room, c.put.ensures.room, c.in-Some.ensures.capacity)),
+      );
     }
 
 pub worker_of-worker-requires : goal.worker_of-worker-requires

@@ -8,7 +8,7 @@ loop-i-init g c = all_not_yet c.args.table.now c.args.mine.now c.requires
 pub step-requires-after_bounds : goal.step-requires-after_bounds
 step-requires-after_bounds g c κs within =
     all_ready c.args.table.now c.args.mine.now c.loop-i.mine c.loop-i.invariant c.loop-i.i c.index-mine-i.result
-        (omega (arith, c.loop-i-test.true, c.loop-i.auto.mine))
+    (omega (arith, c.loop-i-test.true, c.loop-i.auto.mine))
 
 pub loop-i-preserved : goal.loop-i-preserved
 loop-i-preserved g c = one_worked_on c.args.table.now c.args.mine.now c.loop-i.mine c.loop-i.i c.index-mine-i.result c.step.new.worker c.loop-i.invariant

@@ -8,5 +8,5 @@ keep_outcome-requires-clause-end g c = reportable _ _ c.free_outcome_of-outcome.
 pub returns-in-Ok-clause-replays : goal.returns-in-Ok-clause-replays
 returns-in-Ok-clause-replays g c =
     replayed_so (replay_by c.args.request.now) _ _ _ _ _ c.free_outcome_of-outcome.result c.in-Ok.ensures.tells c.in-Ok.ensures.files
-        c.free_outcome_of-outcome.ensures
+    c.free_outcome_of-outcome.ensures
     c.keep_outcome.ensures.tells c.keep_outcome.result c.keep_outcome.ensures.keeps

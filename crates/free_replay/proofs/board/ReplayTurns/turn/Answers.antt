@@ -35,7 +35,7 @@ invariant_of-self c =
     c.number_of-hart.ensures inside c.turn-pace.ensures.turned c.eq-same.result c.committed-before.result.0 c.committed.result.0
     c.committed-before.result.1 c.committed.result.1 c.self.inside.ended c.self.inside.still c.kept-still.result c.marked-self-inside.result
     c.marked-self-inside-2.result (not c.goes_by.result) c.eq-same.ensures c.committed-before.ensures.place c.committed.ensures.place
-        c.committed-before.ensures.count
+    c.committed-before.ensures.count
     c.committed.ensures.count (ap not c.goes_by.ensures) c.self.invariant.0 c.self.invariant.1 c.kept-still.ensures c.marked-self-inside.ensures
     (subst (λ mark. IsMarkedAs c.number_of-hart.result mark c.self.inside.ended c.marked-self-inside-2.result) c.ends_by.ensures
     c.marked-self-inside-2.ensures)
