@@ -15,7 +15,7 @@ ghost use Rattle.log_format.specs.Given.{IsAt, Gives, parts_at, place_after, pie
 
 use crate::buffer::Buffer;
 use crate::narrow::log_is_narrow;
-use log_entry::Log;
+use log_entry::{Log, MAX_HARTS};
 use shared_types::NoMemory;
 use std::alloc::Global;
 
@@ -36,7 +36,7 @@ pub struct LogPieces {
 
 /// The place of the next part, in a stream of so many entries.
 fn after(place: Place, count: usize) -> Place
-    requires hart { place.hart < 8 }
+    requires hart { place.hart < MAX_HARTS }
     requires next { place.next ≤ count }
     ensures { result ≡ place_after (nat_lt place.next count) place }
 {
