@@ -1,6 +1,5 @@
 //! The entries of a log, hart by hart.
-ghost use Rattle.std.specs.Prelude.{◌≡◌, ◌++◌, flat_map, string_bytes, IfOk, IsTrue, OnOk};
-ghost use Rattle.log_entry.specs.Range.{in_range};
+ghost use Rattle.std.specs.Prelude.{◌≡◌, ◌++◌, flat_map, string_bytes, IfOk, OnOk};
 ghost use Rattle.log_inspect.specs.Listing.{cause_name, mode_name, left_name, input_text, yield_text, wait_text, place_text, gain_text, left_text, poll_text, touch_text, end_text, entry_text, entry_line, entry_lines, hart_line, hart_lines, lines_of_harts, board_text, head_line, image_line, listing};
 
 use log_entry::{Entries, Entry, Log, WaitFor};
@@ -258,7 +257,6 @@ fn put_listing(alloc: Global, out: &mut String, l: &Log) -> Result<(), AllocErro
 
 /// What a log says: its head, and each hart's entries in their order.
 pub fn list_log(alloc: Global, l: &Log) -> Result<Vec<u8>, NoMemory>
-    requires { IsTrue (in_range l.now) }
     ensures { IfOk result (λ v. v.items ≡ listing l.now) }
 {
     let mut out = String::new(alloc);
