@@ -10,6 +10,7 @@ ghost use Rattle.command_words.specs.Allowed.{ArePlaces, IsInRange, KeepsApart, 
 ghost use Rattle.command_words.specs.Laws.{PlacesAreFirst};
 
 mod job;
+mod limits;
 mod other;
 mod record;
 mod replay;

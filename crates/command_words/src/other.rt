@@ -4,15 +4,10 @@ ghost use Rattle.command_words.specs.Behind.{ReadsWords};
 ghost use Rattle.command_words.specs.Grammar.{inspect_of, trace_of, moves_of, sample_of};
 ghost use Rattle.command_words.specs.Allowed.{ArePlaces, IsInRange};
 
+use crate::limits::{LAST_SAMPLE, LONGEST_TRACE, MOST_HARTS, MOST_MOVES};
 use crate::two_names::image_and_log;
 use crate::word::{is_name, number_in};
 use crate::{Job, Usage};
-
-/// The most moves that a hart makes.
-const MOST_MOVES: u64 = 1_000_000_000_000;
-
-/// The most moves of one trace.
-const LONGEST_TRACE: u64 = 1_000_000;
 
 /// The job of the words behind `inspect`.
 pub(crate) fn inspect_words(words: &[String]) -> Result<Job, Usage>
@@ -37,7 +32,7 @@ pub(crate) fn sample_words(words: &[String]) -> Result<Job, Usage>
     let [word, rest @ ..] = words else {
         return Err(Usage { place: 1 });
     };
-    match number_in(0, 4_294_967_295, word) {
+    match number_in(0, LAST_SAMPLE, word) {
         None => Err(Usage { place: 1 }),
         Some(_) if !rest.is_empty() => Err(Usage { place: 2 }),
         Some(number) => Ok(Job::Sample {
@@ -55,7 +50,7 @@ fn moves_words(words: &[String]) -> Result<Job, Usage>
     let [hart, rest @ ..] = words else {
         return Err(Usage { place: 3 });
     };
-    let Some(hart) = number_in(0, 7, hart) else {
+    let Some(hart) = number_in(0, MOST_HARTS - 1, hart) else {
         return Err(Usage { place: 3 });
     };
     let [from, rest @ ..] = rest else {

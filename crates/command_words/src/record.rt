@@ -6,6 +6,7 @@ ghost use Rattle.command_words.specs.Tables.{record_option, no_record_option};
 ghost use Rattle.command_words.specs.Grammar.{record_of};
 ghost use Rattle.command_words.specs.Allowed.{IsBelow, AreInRange, ArePlaces, IsInRange};
 
+use crate::limits::{LEAST_LOG_LIMIT, LONGEST_LOG, MOST_HARTS, MOST_MOVES, MOST_PAGES};
 use crate::two_names::image_and_log;
 use crate::value::{name_behind, number_behind};
 use crate::{Job, Usage};
@@ -40,18 +41,27 @@ fn record_option(
 {
     match option.as_str() {
         "--harts" => {
-            given.harts = Some(number_behind(given.harts.is_some(), place, words, 1, 8)? as u8);
+            given.harts = Some(
+                number_behind(given.harts.is_some(), place, words, 1, MOST_HARTS)? as u8,
+            );
         }
         "--pages" => {
-            given.pages = Some(number_behind(given.pages.is_some(), place, words, 1, 4096)? as u16);
+            given.pages = Some(
+                number_behind(given.pages.is_some(), place, words, 1, MOST_PAGES)? as u16,
+            );
         }
         "--limit" => {
-            let most = 1_000_000_000_000;
-            given.limit = Some(number_behind(given.limit.is_some(), place, words, 0, most)?);
+            given.limit = Some(number_behind(given.limit.is_some(), place, words, 0, MOST_MOVES)?);
         }
         "--log-limit" => {
             let again = given.log_limit.is_some();
-            given.log_limit = Some(number_behind(again, place, words, 1024, 536_870_912)?);
+            given.log_limit = Some(number_behind(
+                again,
+                place,
+                words,
+                LEAST_LOG_LIMIT,
+                LONGEST_LOG,
+            )?);
         }
         "--dump" => {
             given.dump = Some(name_behind(given.dump.is_some(), place, words, image, log)?);
