@@ -188,6 +188,14 @@ module _ (t : TurnTable Plain Part) where
   pub added : (us vs new : List Both) (u v : Both) → AllZip (Worked t) us vs → Worked t u v → new ≡ vs ++ v ∷ [] → AllZip (Worked t) (us ++ u ∷ []) new
   added us vs new u v z one e = subst (AllZip (Worked t) (us ++ u ∷ [])) (sym e) (AllZip-more (Worked t) us vs u v z one)
 
+  -- the last of the workers had worked before
+  pub changed_last : (us vs : List Both) (u v : Both) → AllZip (Worked t) (us ++ v ∷ []) vs → Worked t u v → AllZip (Worked t) (us ++ u ∷ []) vs
+  changed_last [] [] u v z one = absurd z
+  changed_last [] (w ∷ []) u v z one = (worked_on t u.0 v.0 w.0 v.1 w.1 one z.0, tt)
+  changed_last [] (w ∷ (w' ∷ vs)) u v z one = absurd z.1
+  changed_last (x ∷ us) [] u v z one = absurd z
+  changed_last (x ∷ us) (w ∷ vs) u v z one = (z.0, changed_last us vs u v z.1 one)
+
   pub all_ready_with : (ws vs : List Both) (w : Both) → All (Ready t) ws → Ready t w → vs ≡ ws ++ w ∷ [] → All (Ready t) vs
   all_ready_with ws vs w all one e = subst (All (Ready t)) (sym e) (All-push (Ready t) ws w all one)
 

@@ -1,5 +1,6 @@
 -- What the worker of a hart has, and what it promises when it is joined (docs/threads.md).
-use Rattle.std.specs.Prelude.{ℕ, ◌≡◌, true, false, Option, Some}
+use Rattle.std.specs.Prelude.{ℕ, ◌≡◌, true, false, Option, Some, List, All}
+use Rattle.std.specs.List.{AllZip}
 use Rattle.run_model.specs.Run.{Run}
 use Rattle.turn_table.specs.declared.table.Pass.{Pass}
 use Rattle.turn_table.specs.declared.table.TurnTable.{TurnTable}
@@ -46,6 +47,14 @@ pub record Continues (old new : Pass Plain Part) : Type 0 where
 pub record HasWorked (t : TurnTable Plain Part) (old new : Pass Plain Part) (j : Job) : Type 0 where
   pub ready : IsReady t new j
   pub continues : Continues old new
+
+-- workers of which each is ready
+abbrev pub AreReady : TurnTable Plain Part → List (Pass Plain Part × Job) → Type 0
+AreReady t workers = All (λ w. IsReady t w.0 w.1) workers
+
+-- workers of which each has worked
+abbrev pub HaveWorked : TurnTable Plain Part → List (Pass Plain Part × Job) → List (Pass Plain Part × Job) → Type 0
+HaveWorked t old new = AllZip (λ a b. HasWorked t a.0 b.0 b.1) old new
 
 -- what is left of that once pass and run are apart: the pass is this table's, doesn't hold the board, and continues
 pub record IsBack (t : TurnTable Plain Part) (old new : Pass Plain Part) : Type 0 where

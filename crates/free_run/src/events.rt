@@ -8,7 +8,7 @@ use std::thread::yield_now;
 const COUNTS: u64 = 0x1_0000_0000;
 
 /// How often a thread looks for another event before it sleeps. A hart mostly waits for no longer than another's leg.
-const LOOKS: u32 = 64;
+const EVENT_LOOKS: u32 = 64;
 
 /// How many turns changed the board, or showed that there is no more to do, and how often memory was refused for one.
 #[derive(Drop)]
@@ -41,7 +41,7 @@ impl EventCount {
 
     /// Whether there was another event since the count was read, within some looks. In between other threads go first.
     fn moves_on(&self, read: u32) -> bool {
-        for _ in 0..LOOKS {
+        for _ in 0..EVENT_LOOKS {
             if self.read() != read {
                 return true;
             }

@@ -16,6 +16,9 @@ use std::alloc::Global;
 use std::sync::Wait;
 use turn_table::{Pass, TurnTable};
 
+/// The number of the CSR that holds a hart's number (privileged specification, "Machine-Level CSRs").
+const MHARTID: u16 = 0xf14;
+
 /// What the board told a hart at its turn, and whether the board was over behind it.
 #[derive(Drop)]
 pub struct Led {
@@ -27,7 +30,7 @@ pub struct Led {
 pub fn hart_number(run: &HartRun) -> u8
     ensures { number_of run.now < 256 → result ≡ number_of run.now }
 {
-    let number = run.hart().csr(0xf14).unwrap_or(0);
+    let number = run.hart().csr(MHARTID).unwrap_or(0);
     u8::try_from(number).unwrap_or(0)
 }
 

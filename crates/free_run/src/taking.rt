@@ -8,7 +8,7 @@ use std::sync::Wait;
 use turn_table::{Parted, Pass, TurnTable};
 
 /// How often a hart looks for the board before it sleeps until the board is given back.
-const LOOKS: u32 = 32;
+const BOARD_LOOKS: u32 = 32;
 
 /// How long it waits between two looks.
 const SPINS: u32 = 16;
@@ -30,7 +30,7 @@ pub fn take_board<R: Wait, B: Parted>(wait: &R, table: &TurnTable<B>, pass: &mut
     ensures part { slice_get (B.parts result) (hart_of pass.old) ≡ part_of pass.old }
     ensures holds { HoldsBoard B.parts result pass.new }
 {
-    for _ in 0..LOOKS {
+    for _ in 0..BOARD_LOOKS {
         if let Some(board) = table.try_take(pass) {
             return board;
         }

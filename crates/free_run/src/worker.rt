@@ -3,6 +3,7 @@
 ghost use Rattle.std.specs.Prelude.{◌≡◌, Some};
 ghost use Rattle.crew_core.specs.Orders.{told};
 ghost use Rattle.crew_parts.specs.Parts.{until_by};
+ghost use Rattle.free_run.specs.Nexts.{next_by};
 ghost use Rattle.free_run.specs.Workers.{HasWorked, IsReady};
 
 use crate::board::RecordBoard;
@@ -41,7 +42,9 @@ fn until_of(order: Order, count: u64) -> u64
 
 /// What a worker does that was told this at its turn. One whose hart is at the limit stays until the board is over, so
 /// that it gives its pages up where others want them.
-fn next_of(order: Order, over: bool) -> Next {
+fn next_of(order: Order, over: bool) -> Next
+    ensures { result ≡ next_by order over }
+{
     match order {
         Order::Go { .. } => Next::Moves,
         Order::Rest if over => Next::Ends,
