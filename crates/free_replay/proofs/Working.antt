@@ -181,6 +181,15 @@ module _ (t : TurnTable Plain Part) where
     continued = subst (AllZip Continues (ps0 ++ old.pass ∷ [])) (sym e) (AllZip-more Continues ps0 ps old.pass new.pass continued worked.continues);
   }
 
+  -- the last of the workers had worked before
+  pub changed_last : (ps qs : List (Pass Plain Part)) (old new : Worker) → AllZip Continues (ps ++ new.pass ∷ []) qs → HasWorked t old new
+      → AllZip Continues (ps ++ old.pass ∷ []) qs
+  changed_last [] [] old new z one = absurd z
+  changed_last [] (q ∷ []) old new z one = (continues_then old.pass new.pass q one.continues z.0, tt)
+  changed_last [] (q ∷ (q' ∷ qs)) old new z one = absurd z.1
+  changed_last (p ∷ ps) [] old new z one = absurd z
+  changed_last (p ∷ ps) (q ∷ qs) old new z one = (z.0, changed_last ps qs old new z.1 one)
+
   pub all_ready_with : (ws vs : List Worker) (w : Worker) → All (IsReadyWorker t) ws → IsReadyWorker t w → vs ≡ ws ++ w ∷ [] → All (IsReadyWorker t) vs
   all_ready_with ws vs w all one e = subst (All (IsReadyWorker t)) (sym e) (All-push (IsReadyWorker t) ws w all one)
 

@@ -2,3 +2,4 @@ pub mod Parts
 pub mod ReplayTurns
 pub mod ReplayLegs
 pub mod Workers
+pub mod Nexts

@@ -1,6 +1,7 @@
 //! One hart's worker: legs and turns until there is no more to do.
 
 ghost use Rattle.std.specs.Prelude.{◌≡◌};
+ghost use Rattle.free_replay.specs.Nexts.{next_by};
 ghost use Rattle.free_replay.specs.Workers.{IsReadyWorker, HasWorked, until_told};
 
 use crate::board::ReplayTurns;
@@ -35,7 +36,9 @@ fn until_of(pace: Pace, count: u64) -> u64
 
 /// What a worker does that was told this at its turn. One whose hart diverged stays, so that the board can tell that no
 /// hart can go on.
-fn next_of(pace: Pace, over: bool) -> Next {
+fn next_of(pace: Pace, over: bool) -> Next
+    ensures { result ≡ next_by pace over }
+{
     match pace {
         _ if over => Next::Ends,
         Pace::Go { .. } => Next::Moves,
