@@ -1,3 +1,5 @@
+//! Recordings of several harts by the top call, over devices in memory.
+
 use crate::replay_tests::is_replayed;
 use crate::tests::{
     Row, bytes_of, comes_true, has_lines, has_word, plain_row, race_guest, round, sends, serve,
@@ -112,7 +114,7 @@ fn leaves<T: Threads + Wait + Sync>(
     let file = bytes_of(alloc, row.guest)?;
     let ran = serve(rt, alloc, row, file.as_slice())?;
     let kept = is_long(ran.shelf.held("l"), row.length) && has_word(ran.shelf.held("d"), word);
-    Ok(kept && has_lines(ran.report.written(), row.lines))
+    Ok(kept && ran.status == row.status && has_lines(ran.report.written(), row.lines))
 }
 
 /// In rounds atomic additions of two harts add up to 2,000, and racing ones come to 1,000.

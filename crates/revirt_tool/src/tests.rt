@@ -1,3 +1,5 @@
+//! Runs of the top call over devices in memory, and what the tests of the other files share with them.
+
 ghost use Rattle.std.specs.Prelude.{◌≡◌, ◌∷◌, [], None, IfOk, codes};
 ghost use Rattle.command_words.specs.Texts.{texts};
 
@@ -26,7 +28,7 @@ pub(crate) struct Row {
     shelf_fails: &'static [u64],
     pub console_fails: &'static [u64],
     sink_fails: &'static [u64],
-    status: u8,
+    pub status: u8,
     pub lines: &'static str,
     pub length: usize,
     pub entries: &'static str,
@@ -360,11 +362,14 @@ pub(crate) fn serve<T: Threads + Wait + Sync>(
     tell(rt, alloc, row.line, devices, &OpenGate)
 }
 
-/// Whether a text has all these lines.
+/// Whether a text has all these lines; where none are given, whether it is empty.
 pub(crate) fn has_lines(text: &[u8], lines: &str) -> bool {
     let Ok(text) = std::str::from_utf8(text) else {
         return false;
     };
+    if lines.is_empty() {
+        return text.is_empty();
+    }
     for want in lines.lines() {
         if !text.lines().any(|line| line == want) {
             return false;
