@@ -1,5 +1,6 @@
 -- What the steps of a replay come to together.
-use Rattle.std.proofs.Common.{ℕ, List, Result, Ok, Err, IfOk, inl, inr, refl, sym, ◌∙◌, subst}
+use Rattle.std.proofs.Common.{ℕ, ◌≡◌, List, Result, Ok, Err, IfOk, inl, inr, refl, sym, ◌∙◌, subst}
+use Rattle.std.specs.Result.{IsErrAnd}
 use Rattle.outside.specs.Causes.{Rose}
 use Rattle.outside.specs.Fetching.{IsPast}
 use Rattle.outside.specs.Seen.{SeenShelf, ToldBefore}
@@ -9,7 +10,8 @@ use Rattle.flat_machine.specs.declared.results.Final.{Final}
 use Rattle.revirt_tool.specs.Tasks.{ReplayWish}
 use Rattle.revirt_tool.specs.Files.{WasFetched, IsUntouched, longest}
 use Rattle.revirt_tool.specs.Listings.{LogAs}
-use Rattle.revirt_tool.specs.Replays.{IsImageOf, IsReportable, StartAs, OutcomeAs, KeepsReplayAs, KeepsOutcomeAs, AreFetched, ReplaysAs}
+use Rattle.revirt_tool.specs.Replays.{IsImageOf, IsReportable, StartAs, OutcomeAs, KeepsReplayAs, KeepsOutcomeAs, AreFetched}
+use Rattle.revirt_tool.specs.Replays.{FilesAs, ReplaysAs}
 use Rattle.revirt_tool.specs.declared.ending.File.{File}
 use Rattle.revirt_tool.specs.declared.ending.File.TheVariants as files
 use Rattle.revirt_tool.specs.declared.ending.Ending.{Ending}
@@ -31,6 +33,12 @@ log_fails w s t (Disorderly rule hart entry) read = absurd read
 log_fails w s t (Diverged hart count rule) read = absurd read
 log_fails w s t (Kept report fault) read = absurd read
 log_fails w s t (Listed listing orderly) read = absurd read
+
+-- where a file isn't there, the replay ends as its reading does
+pub files_fail : (w : ReplayWish) (s t : SeenShelf) (r : Result (Log × Image) Ending) (ending : Ending) → IsErrAnd r (λ e. e ≡ ending)
+    → ReplaysAs w s t ending → FilesAs w s t r
+files_fail w s t (Ok files) ending is fails = absurd is
+files_fail w s t (Err e) ending is fails = subst (ReplaysAs w s t) (sym is) fails
 
 -- what was fetched after another file
 fetched_since : (of : File) (name file : List ℕ) (s m t : SeenShelf) → IsUntouched s m → ToldBefore m.tells t.tells → WasFetched of name m t file

@@ -50,10 +50,7 @@ pub(crate) fn log_for<S: Shelf>(alloc: Global, name: &str, shelf: &mut S) -> Res
     ensures has { (n : List ℕ) → S.has shelf.new n ↔ S.has shelf.old n }
     ensures log { LogAs name.now (S.seen shelf.old) (S.seen shelf.new) result }
 {
-    let file = match file_for(alloc, File::Log, name, shelf) {
-        Ok(file) => file,
-        Err(ending) => return Err(ending),
-    };
+    let file = file_for(alloc, File::Log, name, shelf)?;
     match read_log(alloc, file.as_slice()) {
         Ok(log) => Ok(log),
         Err(ReadError::Malformed { offset, rule }) => Err(Ending::Malformed { offset, rule }),

@@ -124,10 +124,7 @@ fn image_for<S: Shelf>(alloc: Global, request: &Request, shelf: &mut S) -> Resul
     ensures tells { ToldBefore (S.seen shelf.old).tells (S.seen shelf.new).tells }
     ensures image { ImageAs (wish_by request.now) (S.seen shelf.old) (S.seen shelf.new) result }
 {
-    let file = match file_for(alloc, File::Image, request.image, shelf) {
-        Ok(file) => file,
-        Err(ending) => return Err(ending),
-    };
+    let file = file_for(alloc, File::Image, request.image, shelf)?;
     match read_image(alloc, file.as_slice(), request.pages) {
         Ok(image) => Ok(image),
         Err(ImageError::Refused(rule)) => Err(Ending::ImageRefused { rule }),

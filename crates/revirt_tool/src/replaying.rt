@@ -48,10 +48,7 @@ pub(crate) fn start_for<S: Shelf>(
     ensures tells { ToldBefore (S.seen shelf.old).tells (S.seen shelf.new).tells }
     ensures start { StartAs name.now log.now (S.seen shelf.old) (S.seen shelf.new) result }
 {
-    let file = match file_for(alloc, File::Image, name, shelf) {
-        Ok(file) => file,
-        Err(ending) => return Err(ending),
-    };
+    let file = file_for(alloc, File::Image, name, shelf)?;
     let image = match read_image(alloc, file.as_slice(), log.pages) {
         Ok(image) => image,
         Err(ImageError::Refused(rule)) => return Err(Ending::ImageRefused { rule }),
@@ -133,10 +130,7 @@ pub(crate) fn outcome_of<T: Threads + Sync, G: Gate>(
     requires pages { log.pages ≡ image.now.pages }
     ensures { OutcomeAs log image.now result }
 {
-    let orderly = match in_order(alloc, log) {
-        Ok(orderly) => orderly,
-        Err(ending) => return Err(ending),
-    };
+    let orderly = in_order(alloc, log)?;
     match played(rt, alloc, orderly, image, way, gate) {
         Ok(outcome) => told_of(outcome),
         Err(_) => Err(Ending::NoMemory),
@@ -156,10 +150,7 @@ fn free_outcome_of<T: Threads + Wait + Sync, G: Gate>(
     requires pages { log.pages ≡ image.now.pages }
     ensures { OutcomeAs log image.now result }
 {
-    let orderly = match in_order(alloc, log) {
-        Ok(orderly) => orderly,
-        Err(ending) => return Err(ending),
-    };
+    let orderly = in_order(alloc, log)?;
     match replay_free(rt, alloc, orderly, image, gate) {
         Ok(outcome) => told_of(outcome),
         Err(_) => Err(Ending::NoMemory),
@@ -219,14 +210,8 @@ fn files_for<S: Shelf>(
     ensures tells { ToldBefore (S.seen shelf.old).tells (S.seen shelf.new).tells }
     ensures files { FilesAs (replay_by request.now) (S.seen shelf.old) (S.seen shelf.new) result }
 {
-    let log = match log_for(alloc, request.log, shelf) {
-        Ok(log) => log,
-        Err(ending) => return Err(ending),
-    };
-    let image = match start_for(alloc, request.image, &log, shelf) {
-        Ok(image) => image,
-        Err(ending) => return Err(ending),
-    };
+    let log = log_for(alloc, request.log, shelf)?;
+    let image = start_for(alloc, request.image, &log, shelf)?;
     Ok((log, image))
 }
 

@@ -41,10 +41,7 @@ fn moves_told(
     requires to { request.now.to ≤ most_moves }
     ensures { TellsAs (λ v. v.items) (trace_by request.now) log image.now result }
 {
-    let orderly = match in_order(alloc, log) {
-        Ok(orderly) => orderly,
-        Err(ending) => return Err(ending),
-    };
+    let orderly = in_order(alloc, log)?;
     let Told { steps, outcome } = match story(
         alloc,
         orderly,

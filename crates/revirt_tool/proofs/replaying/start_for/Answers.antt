@@ -12,16 +12,16 @@ other a b is test differ = λ e. true≢false (sym ((bytes_eq-Decides a b).1 (sy
 pub returns-clause-start : goal.returns-clause-start
 returns-clause-start g c = (
   record {
-    image = c.in-Ok-read_image.image;
+    image = c.in-Ok.image;
     read = record {
-      file = c.in-Ok.file.items;
-      fetched = record { held = λ told. c.in-Ok.ensures.file.1.held (c.in-Ok.ensures.tells told); within = c.in-Ok.ensures.file.1.within };
-      accepted = subst (λ f. broken_rule c.args.log.now.pages f ≡ None) c.as_slice.ensures.value c.in-Ok-read_image.ensures.0;
-      read = subst (λ f. c.in-Ok-read_image.image ≡ image_of c.args.log.now.pages f) c.as_slice.ensures.value c.in-Ok-read_image.ensures.1;
+      file = c.in_ok-file.file.items;
+      fetched = record { held = λ told. c.in_ok-file.ensures.file.1.held (c.in_ok-file.ensures.tells told); within = c.in_ok-file.ensures.file.1.within };
+      accepted = subst (λ f. broken_rule c.args.log.now.pages f ≡ None) c.as_slice.ensures.value c.in-Ok.ensures.0;
+      read = subst (λ f. c.in-Ok.image ≡ image_of c.args.log.now.pages f) c.as_slice.ensures.value c.in-Ok.ensures.1;
     };
     named_is = refl;
     has_is = c.digest-digest.ensures;
     differ = other c.digest-digest.result c.args.log.now.image c.eq.result c.eq.ensures c.if-eq.false;
   },
-  c.in-Ok.ensures.file.0,
+  c.in_ok-file.ensures.file.0,
 )
