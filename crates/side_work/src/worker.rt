@@ -67,7 +67,7 @@ fn serve<X, W: MadeBy<X>>(worker: Worker<W>, tool: &X) {
 }
 
 /// Calls `f` here, and meanwhile each worker serves in a thread of its own. Where no thread can be had, its hand makes
-/// the work itself. It returns only once all hands have ended.
+/// the work itself. It returns once all hands have ended, or behind more looks than any run makes.
 pub fn beside<T: Threads + Sync, X: Sync, W: MadeBy<X>, Y, F: FnOnce() -> Y>(
     rt: &T,
     mut workers: Vec<Worker<W>>,
