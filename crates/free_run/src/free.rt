@@ -131,8 +131,8 @@ fn run_free<T: Threads + Wait + Sync, C: Console, K: Clock, G: Gate>(
 }
 
 /// Records a board with free harts: each moves on its own run, on a thread of its own where one can be had, between two
-/// passes of the gate, and comes to the board for its turns when the board is free. It ends when the board is over.
-/// Where memory ran out, console and clock come back with what they gave.
+/// passes of the gate, and comes to the board for its turns when the board is free. What is recorded
+/// ends where the board is over; that the call returns is no clause. Where memory ran out, console and clock come back with what they gave.
 pub fn record_free<T: Threads + Wait + Sync, C: Console, K: Clock, G: Gate>(
     rt: &T,
     alloc: Global,

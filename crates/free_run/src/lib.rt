@@ -1,4 +1,4 @@
-//! Harts that run free, each on a thread of its own, with one board between them (docs/threads.md).
+//! Harts that run free, each on a thread of its own where one can be had, with one board between them (docs/threads.md).
 #![tactic(auto)]
 
 mod board;
