@@ -5,7 +5,7 @@ use Rattle.free_run.specs.declared.next.Next.TheVariants.{Moves, Waits, Ends}
 use Rattle.replay_core.specs.declared.went.Pace.{Pace}
 use Rattle.replay_core.specs.declared.went.Pace.TheVariants.{Go, Hold, Diverged, Ended}
 
--- what a worker does that was told this by a board where no hart can go on, or one can
+-- what a worker does that was told this by a board where no hart can go on, or where that isn't known
 abbrev pub next_by : Pace → Bool → Next
 next_by pace true = Ends
 next_by (Go until) false = Moves

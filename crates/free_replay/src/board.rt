@@ -123,7 +123,7 @@ impl ReplayTurns {
     ghost use Rattle.replay_core.specs.Items.{IsStuck};
     ghost use Rattle.replay_core.specs.Turns.{HasTurn, IsPartMoved, told};
 
-    /// A board as it is before any turn.
+    /// A board, of which no hart has been told yet that it can't go on.
     pub fn of(board: ReplayBoard) -> ReplayTurns
         ensures { result ≡ board }
     {
@@ -142,7 +142,8 @@ impl ReplayTurns {
         board
     }
 
-    /// Whether each hart has ended, or had a turn since anything changed, at which it could not go on: then none can.
+    /// True only where no hart can go on. By construction, and no clause: it is true once each hart has ended, or had a
+    /// turn since anything changed, at which it could not go on.
     pub fn over(&self) -> bool
         ensures over { IsTrue result → IsStuck self.now.log (state_of self.now) }
         ensures reached { (s : Replay FlatState) × Reaches self.now s }

@@ -13,7 +13,8 @@ use replay_core::Pace;
 use std::sync::Wait;
 use turn_table::{Pass, TurnTable};
 
-/// What the board told a hart at its turn, and whether no hart could go on behind it.
+/// What the board told a hart at its turn. Where `over` is true no hart can go on behind it; where it is false nothing is
+/// said.
 #[derive(Drop)]
 pub struct Paced {
     pub pace: Pace,

@@ -1,4 +1,4 @@
-//! Replays whose harts run free, each on a thread of its own, with one board between them (docs/threads.md).
+//! Replays whose harts run free, each on a thread of its own where one can be had, with one board between them (docs/threads.md).
 #![tactic(auto)]
 
 mod board;
