@@ -1,4 +1,4 @@
-//! The command that records a sample guest and replays it in both ways.
+//! The command that records a sample guest and replays it on one thread and in rounds.
 
 ghost use Rattle.std.specs.Prelude.{◌≡◌, ◌-◌, ◌^◌, ℕ, true, IfOk, Ok, is_ok, nat_lt};
 ghost use Rattle.flat_machine.specs.declared.results.Final.{Final};

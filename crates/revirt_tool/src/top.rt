@@ -168,7 +168,8 @@ pub fn recordings_are_done()
     ensures { RecordingsAreDone }
 {}
 
-/// Two recordings of one image by the same words, for which console and clock gave the same, keep the same bytes.
+/// Two recordings of one image by the same words, for which console and clock gave the same, and with free harts the
+/// turns were the same, keep the same bytes and print the same report.
 pub fn recordings_are_one()
     ensures { SameAreKept }
 {}
@@ -181,8 +182,8 @@ pub fn listings_are_done()
 {}
 
 /// A replay of a log over the image that it names, which are told and come to an end, is done with the report of that
-/// end where nothing fails, or memory ran out; such are a log that a recording kept and its image, with the report that
-/// the recording printed.
+/// end where nothing fails and the shelf still tells afterwards, or memory ran out; such are a log that a recording kept
+/// and its image, with the report that the recording printed.
 pub fn replays_are_done()
     ensures done { ReplaysAreDone }
     ensures kept { KeptAreReplayed }
